@@ -1,0 +1,2 @@
+-- The rules of document 01, as definitions.
+pub mod Answer
