@@ -1,2 +1,13 @@
 -- The rules of document 01, as definitions.
 pub mod Answer
+pub mod Search
+pub mod SearchLaws
+pub mod Cells
+pub mod Block
+pub mod Plain
+pub mod Stage
+pub mod Staged
+pub mod Batches
+pub mod Accept
+pub mod Calls
+pub mod Numbers

@@ -26,6 +26,18 @@ pub enum Answer {
     BadRecord,
 }
 
+// What settings come to: the answer and the record, of zeros where they are refused.
+pub struct Setup {
+    pub answer: Answer,
+    pub settings: Settings,
+}
+
+// What a check finds: nothing against the call, or its refusal.
+pub enum Check {
+    Pass,
+    Refuse(Answer),
+}
+
 impl Answer {
     // The answer's number.
     pub fn number(self) -> usize
