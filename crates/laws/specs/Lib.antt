@@ -1,0 +1,7 @@
+-- Laws of the rules of document 01.
+pub mod Lists
+pub mod Distinct
+pub mod Cut
+pub mod Block
+pub mod Plain
+pub mod PlainSheet
