@@ -3,5 +3,6 @@ pub mod Lists
 pub mod Distinct
 pub mod Cut
 pub mod Block
-pub mod Plain
-pub mod PlainSheet
+pub mod Chop
+pub mod Stage
+pub mod Index

@@ -16,6 +16,13 @@ both? (yes a) (yes b) = yes (a, b)
 both? (yes a) (no b) = no (λ p. b (p .1))
 both? (no a) d = no (λ p. a (p .0))
 
+-- A, B and C
+abbrev pub three? : {A B C : Type 0} → Dec A → Dec B → Dec C → Dec (A × B × C)
+three? (yes a) (yes b) (yes c) = yes (a, b, c)
+three? (yes a) (yes b) (no c) = no (λ p. c (p .2))
+three? (yes a) (no b) d = no (λ p. b (p .1))
+three? (no a) d e = no (λ p. a (p .0))
+
 -- not A
 abbrev pub not? : {A : Type 0} → Dec A → Dec (¬ A)
 not? (yes a) = no (λ f. f a)

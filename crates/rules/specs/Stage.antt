@@ -7,7 +7,7 @@ use mathlib.Core.List.{List, [], _∷_}
 use Prim.Native.Nat.{ℕ, zero, suc, _+_, _%_, _≤_, _<_}
 use native.Mathlib.Decide.{ℕ-discrete, decLt}
 use lib.ListN.{length, getD}
-use Rattle.rules.specs.Search.{pick, both?, not?, Found, at, nowhere, first}
+use Rattle.rules.specs.Search.{pick, both?, three?, not?, Found, at, nowhere, first}
 use Rattle.rules.specs.Cells.{sum}
 
 -- ---- live blocks
@@ -53,13 +53,13 @@ absent? n (x ∷ xs) = both? (not? (ℕ-discrete n x)) (absent? n xs)
 abbrev pub Names : ℕ → List ℕ → Type 0
 Names k [] = Unit {0}
 Names k (zero ∷ ts) = Names k ts
-Names k (suc b ∷ ts) = (b < k) × (Absent (suc b) ts × Names k ts)
+Names k (suc b ∷ ts) = (b < k) × Absent (suc b) ts × Names k ts
 
 unfoldable pub names? : (k : ℕ) (ts : List ℕ) → Dec (Names k ts)
 unfolding absent?
 names? k [] = yes tt
 names? k (zero ∷ ts) = names? k ts
-names? k (suc b ∷ ts) = both? (decLt b k) (both? (absent? (suc b) ts) (names? k ts))
+names? k (suc b ∷ ts) = three? (decLt b k) (absent? (suc b) ts) (names? k ts)
 
 -- as many live index blocks as live parity blocks, and indexes as they should be
 abbrev pub StageOk : ℕ → ℕ → List (List ℕ) → List Entry → Type 0
