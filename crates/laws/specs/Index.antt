@@ -11,7 +11,7 @@ use Rattle.rules.specs.Cells.{Low, same?}
 use Rattle.rules.specs.SearchLaws.{pick-elim, pick-no, pick-yes}
 use Rattle.rules.specs.Stage.{Entry, closed, index}
 
-pow-pos′ : (q w : ℕ) → 0 < q → 0 < q ^ w
+pub pow-pos′ : (q w : ℕ) → 0 < q → 0 < q ^ w
 pow-pos′ q zero h = omega (arith, pow-zero q)
 pow-pos′ q (suc w) h = subst (λ (x : ℕ). 0 < x) (sym (pow-suc q w)) (mul-pos (pow-pos′ q w h) h)
 

@@ -1,7 +1,7 @@
 -- Laws of lists of levels: sums, parts, bounds. Assumes nothing.
 use mathlib.Core.List.{List, [], _++_, _∷_}
 use mathlib.Core.Path.{_∙_, _≡_, ap, refl, sym}
-use Prim.Native.Nat.{_*_, _+_, _-_, _<_, _≤_, suc, zero, zero-le, ℕ}
+use Prim.Native.Nat.{_*_, _+_, _-_, _<_, _≤_, suc, zero, zero-le, suc-le-suc, ℕ}
 use native.Mathlib.Nat.{add-sub-of-le, le-of-suc-le-suc, le-refl, not-suc-le-zero, sub-zero, suc-inj, suc-sub-suc}
 use native.Mathlib.Numerals.{add-one}
 use native.Mathlib.Omega.{arith}
@@ -90,3 +90,19 @@ rises-full L (x ∷ b) h zero = h .0
 rises-full L (x ∷ b) h (suc i) = rises-full L b (h .1) i
 
 -- ---- lists of numbers are equal or not
+
+-- cell by cell, no level is above L
+pub low-all : (L : ℕ) (xs : List ℕ) → ((c : ℕ) → c < length xs → getD xs c 0 ≤ L) → Low L xs
+low-all L [] h = tt
+low-all L (x ∷ xs) h = (h 0 (suc-le-suc zero-le), low-all L xs (λ c l. h (suc c) (suc-le-suc l)))
+
+pub low-at : (L : ℕ) (xs : List ℕ) → Low L xs → (c : ℕ) → getD xs c 0 ≤ L
+low-at L [] h c = zero-le
+low-at L (x ∷ xs) h zero = h .0
+low-at L (x ∷ xs) h (suc c) = low-at L xs (h .1) c
+
+-- where no level falls, the sum does not
+pub rises-sum : (xs ys : List ℕ) → length xs ≡ length ys → Rises xs ys → sum xs ≤ sum ys
+rises-sum [] ys e h = zero-le
+rises-sum (x ∷ xs) [] e h = absurd (omega arith)
+rises-sum (x ∷ xs) (y ∷ ys) e h = omega (arith, h 0, rises-sum xs ys (suc-inj e) (λ c. h (suc c)))

@@ -4,25 +4,28 @@ use mathlib.Core.Logic.{_≢_, inl, inr}
 use mathlib.Core.Path.{_∙_, _≡_, ap, ap₂, refl, subst, sym}
 use Prim.Native.Nat.{_*_, _+_, _-_, _<_, _^_, _≤_, suc, zero, ℕ}
 use native.Mathlib.Decide.{decLt}
-use native.Mathlib.Nat.{le-refl, mul-le-mul-right, mul-pos, pow-zero}
+use native.Mathlib.Nat.{le-mul-of-pos-right, le-refl, mul-le-mul-right, mul-pos, pow-zero, sub-self}
 use native.Mathlib.Omega.{arith}
-use lib.ListN.{drop, length, length-append, length-drop, length-map, length-replicate, replicate, take, take-append-drop}
+use lib.ListN.{drop, drop-of-length-le, length, length-append, length-drop, length-map, length-replicate, replicate, take, take-append-drop}
+use lib.Pow.{pow-pos}
 use lib.Seq.{drop-append-add, drop-at, drop-drop, length-take-le, take-at}
 use Rattle.laws.specs.Block.{rises}
-use Rattle.laws.specs.Chop.{chop-join, chop-sized, join-chop, length-join, low-join}
+use Rattle.laws.specs.Chop.{chop-join, chop-sized, join-chop, length-chop, length-join, low-join}
 use Rattle.laws.specs.Cut.{length-block, length-store, low-block, low-store, store-other, store-past, store-rises, store-same}
-use Rattle.laws.specs.Index.{NumberFits, digits-low, digits-zero, entry-stored, length-digits, num-digits, stored-entry}
-use Rattle.laws.specs.Lists.{drop-replicate, low-append, low-drop, low-replicate, rises-append, rises-full, rises-same, rises-zero, sum-append, sum-replicate, take-replicate}
+use Rattle.laws.specs.Index.{NumberFits, digits-low, digits-zero, entry-stored, length-digits, num-digits, pow-pos′, stored-entry}
+use Rattle.laws.specs.Lists.{drop-replicate, low-append, low-drop, low-replicate, low-take, rises-append, rises-full, rises-same, rises-zero, sum-append, sum-replicate, take-replicate}
 use Rattle.laws.specs.Stage.{Forth, Sized, Used, close, end, name, same}
 use Rattle.lifetime.specs.Plain.{keeps}
+use Rattle.lifetime.specs.PlainSheet.{blocks-lawful, lawful-blocks}
 use Rattle.lifetime.specs.Storage.{Storage}
 use Rattle.rules.specs.Batches.{batch, decode, digits, entryCells, entryOf, indexCells, number, sheetAt, write}
-use Rattle.rules.specs.Cells.{Low, Rises, block, chop, join, store, sum}
+use Rattle.rules.specs.Block.{full}
+use Rattle.rules.specs.Cells.{Low, Rises, block, chop, join, same?, store, sum}
 use Rattle.rules.specs.Plain.{Spare}
 use Rattle.rules.specs.Search.{Found, at, first, nowhere}
-use Rattle.rules.specs.SearchLaws.{First, first-is, first-unique, hit, miss}
+use Rattle.rules.specs.SearchLaws.{First, first-is, first-unique, hit, miss, pick-elim}
 use Rattle.rules.specs.Stage.{Entry, Names, closed, index, indexes}
-use Rattle.rules.specs.Staged.{Sheet, stage0, staged}
+use Rattle.rules.specs.Staged.{Sheet, SheetOk, parityCount, parityLength, stage0, staged}
 use Rattle.lifetime.specs.Staged as S
 
 -- ---- entries and their cells
@@ -64,6 +67,26 @@ used-sum L w (index (suc u) ∷ es) g p f h =
     let d : List ℕ = digits (suc L) w (suc u) in
     let n : sum d ≢ 0 = λ e. let z : suc u ≡ 0 = sym (num-digits (suc L) w (suc u) (omega arith) (omega (arith, f .0))) ∙ num-zero (suc L) d e in omega arith in
     omega (arith, sum-append d (join (map (entryCells L w) es)))
+
+-- and a cell above 0 makes a number other than 0, or a full index block
+number-zero : (q : ℕ) (b : List ℕ) → 0 < q → number q b ≡ 0 → sum b ≡ 0
+unfolding number
+number-zero q [] p e = refl
+number-zero q (x ∷ b) p e =
+    let r : number q b ≡ 0 = omega arith in
+    let z : x * q ^ length b ≡ 0 = omega arith in
+    let y : x ≤ x * q ^ length b = le-mul-of-pos-right x (pow-pos′ q (length b) p) in
+    omega (arith, number-zero q b p r)
+
+sum-used : (L w : ℕ) (bs : List (List ℕ)) → Sized w L bs → 0 < sum (join bs) → Used (map (entryOf L w) bs)
+unfolding entryOf
+sum-used L w [] z h = absurd (omega arith)
+sum-used L w (b ∷ bs) z h = pick-elim (λ e. Used (e ∷ map (entryOf L w) bs)) (same? b (replicate w L)) _ _ (λ q. tt)
+    (λ q. go (number (suc L) b) refl (λ h. sum-used L w bs (z .2) h))
+  where
+    go : (u : ℕ) → number (suc L) b ≡ u → (0 < sum (join bs) → Used (map (entryOf L w) bs)) → Used (index u ∷ map (entryOf L w) bs)
+    go zero e f = f (omega (arith, sum-append b (join bs), number-zero (suc L) b (omega arith) e))
+    go (suc u) e f = tt
 
 -- cells of entries that go forth do not fall
 pub forth-rises : (L w : ℕ) {es fs : List Entry} → Forth es fs → AllFit L w es → Rises (join (map (entryCells L w) es)) (join (map (entryCells L w) fs))
@@ -279,3 +302,44 @@ module _ (s m L w n : ℕ) (g : 0 < L) (pos : 1 < s) (fit : 2 ^ s + 2 ≤ suc L 
     cells = cells-decode;
     rises = λ f e c. write-rises f e;
   }
+
+  -- ---- the sheet rules in the words of 01
+
+  tail-short : (f : List ℕ) → length f ≡ n → length (take (m * 2 ^ s) f) ≡ m * 2 ^ s
+  tail-short f e = length-take-le (m * 2 ^ s) f (omega arith)
+
+  sheet-fits : (f : List ℕ) → length f ≡ n → Low L f → {r : Found} → First (λ d. 0 < sum (batch s m w f d)) (s - 1) r → SheetOk s m L (sheetAt s m L w f r) → S.Fits s m L (sheetAt s m L w f r)
+  sheet-fits f e low (miss b) ok = record {
+    long = tail-short f e;
+    low = low-take L (m * 2 ^ s) f low;
+    lawful = blocks-lawful (2 ^ s) L m (take (m * 2 ^ s) f) (pow-pos s) g ok;
+    spare = drop-of-length-le (take (m * 2 ^ s) f) {i = m * 2 ^ s} (omega (arith, tail-short f e)) ∙ ap (λ (x : ℕ). replicate x 0) (sym (sub-self (m * 2 ^ s)));
+  }
+  sheet-fits f e low (hit d l h b) ok =
+      let E : ℕ = 2 * (2 ^ s - 1) in
+      let c : List ℕ = batch s m w f d in
+      let p : (s - 2 - d) * B + B ≤ length (drop (m * 2 ^ s) f) = in-batch f e (s - 2 - d) (omega arith) in
+      let n : length c ≡ E * w = ap length (batch-is f e d) ∙ length-block B (drop (m * 2 ^ s) f) (s - 2 - d) p in
+      let lc : Low L c = subst (Low L) (sym (batch-is f e d)) (low-block L B (drop (m * 2 ^ s) f) (s - 2 - d) (low-drop L (m * 2 ^ s) f low)) in
+      record {
+        stage = l;
+        long = tail-short f e;
+        low = low-take L (m * 2 ^ s) f low;
+        stands = record {
+          sized = chop-sized (parityLength d) L (parityCount s m d) (take (m * 2 ^ s) f) (omega (arith, tail-short f e, S.count-width s m L d (omega arith) (omega arith))) (low-take L (m * 2 ^ s) f low);
+          even = ok .0;
+          names = ok .1;
+        };
+        full = length-map (chop w E c) (entryOf L w) ∙ length-chop w E c;
+        used = sum-used L w (chop w E c) (chop-sized w L E c (omega arith) lc) (subst (λ (x : List ℕ). 0 < sum x) (sym (join-chop w E c n)) h);
+      }
+
+  -- a sheet that keeps the rules means one that the stages accept
+  pub sound-fits : (f : List ℕ) → length f ≡ n → Low L f → SheetOk s m L (decode s m L w f) → S.Fits s m L (decode s m L w f)
+  unfolding decode
+  sound-fits f e low ok = sheet-fits f e low (first-is (λ d. decLt 0 (sum (batch s m w f d))) (s - 1)) ok
+
+-- and back
+pub fits-sound : (s m L : ℕ) (x : Sheet) → S.Fits s m L x → SheetOk s m L x
+fits-sound s m L (stage0 xs) h = lawful-blocks (2 ^ s) L m xs (h .lawful)
+fits-sound s m L (staged d xs es) h = (h .stands .even, h .stands .names)

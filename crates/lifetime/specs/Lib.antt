@@ -9,3 +9,4 @@ pub mod Halve
 pub mod Staged
 pub mod Storage
 pub mod Batches
+pub mod Calls

@@ -1,5 +1,4 @@
--- Plain sheets: n cells, of which the first m * k are m blocks, and the rest is spare and 0 (section III).
--- Assumes nothing.
+-- Laws of plain sheets: n cells, of which the first m * k are m blocks, and the rest is spare and 0. Assumes nothing.
 use mathlib.Core.List.{List}
 use mathlib.Core.Logic.{_≢_}
 use mathlib.Core.Path.{_∙_, _≡_, ap, refl, subst, sym}
@@ -11,10 +10,10 @@ use lib.ListN.{drop, length, length-replicate, replicate, take}
 use Rattle.laws.specs.Block.{Means, cycle-full, cycle-low, cycle-rises, cycle-zero, length-cycle, rises, state-means, state-one, sum-cycle}
 use Rattle.laws.specs.Cut.{blockSum, length-store, store-other, store-past, store-rises, store-same, store-sum, sum-blocks, sum-split}
 use Rattle.laws.specs.Lists.{drop-replicate, low-append, low-drop, low-replicate, low-take, sum-replicate, take-replicate}
-use Rattle.lifetime.specs.Plain.{Lawful, Legal, Planned, Proper, Update, adds, bit-two, erase-late, flips, keeps, legal, new, own, plan-is, stays, total}
+use Rattle.lifetime.specs.Plain.{Lawful, Legal, Planned, Proper, Update, adds, bit-two, erase-late, flips, keeps, lawful-from, legal, new, no-repeat, own, plan-is, stays, total}
 use Rattle.rules.specs.Block.{State, active, broken, cellsOf, cycle, empty, full, grown, next, stateOf}
 use Rattle.rules.specs.Cells.{Low, Rises, block, store, sum}
-use Rattle.rules.specs.Plain.{HasBit, Plan, carryOut, change, erase, plan, put, read, states, weight}
+use Rattle.rules.specs.Plain.{BlocksOk, HasBit, OnCycle, Plan, carryOut, change, erase, plan, put, read, states, weight}
 use Rattle.rules.specs.Search.{Result, done, here, noPlace}
 
 -- ---- the maps D0 and E0
@@ -29,6 +28,27 @@ pub record Accepted (k L m n : ℕ) (xs : List ℕ) : Type 0 where
   pub low : Low L xs
   pub lawful : Lawful k (k * L) m (states k L xs)
   pub spare : drop (m * k) xs ≡ replicate (n - m * k) 0
+
+-- the same in the words of the rules
+proper-from : (k L : ℕ) (s : State) (b : List ℕ) → OnCycle s → Means k L s b → Proper k (k * L) s
+proper-from k L empty b o h = tt
+proper-from k L full b o h = tt
+proper-from k L broken b o h = o
+proper-from k L (active i v) b o h = (h .0, h .1, h .2)
+
+on-cycle : (k F : ℕ) (s : State) → Proper k F s → OnCycle s
+on-cycle k F empty o = tt
+on-cycle k F full o = tt
+on-cycle k F broken o = o
+on-cycle k F (active i v) o = tt
+
+pub blocks-lawful : (k L m : ℕ) (xs : List ℕ) → 0 < k → 0 < L → BlocksOk k L m xs → Lawful k (k * L) m (states k L xs)
+unfolding states
+blocks-lawful k L m xs h g b = lawful-from k (k * L) m (states k L xs)
+    (λ j l. proper-from k L (stateOf k L (block k xs j)) (block k xs j) (b .0 j l) (state-means k L h g (block k xs j))) (b .1)
+
+pub lawful-blocks : (k L m : ℕ) (xs : List ℕ) → Lawful k (k * L) m (states k L xs) → BlocksOk k L m xs
+lawful-blocks k L m xs a = (λ j l. on-cycle k (k * L) (states k L xs j) (a .proper j l), no-repeat k (k * L) m (states k L xs) a)
 
 -- ---- an accepted change
 

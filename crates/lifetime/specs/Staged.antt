@@ -95,7 +95,7 @@ module _ (s m L : ℕ) where
   ReplyLaw i x (done y) = Changed i x y
   ReplyLaw i x noPlace = m * 2 ^ s * L ≤ levels x + (2 ^ s - 1) * (2 * L)
 
-  count-width : (d : ℕ) → d ≤ s - 1 → 0 < s → parityCount s m d * parityLength d ≡ m * 2 ^ s
+  pub count-width : (d : ℕ) → d ≤ s - 1 → 0 < s → parityCount s m d * parityLength d ≡ m * 2 ^ s
   count-width d h p =
       let e : suc d + (s - 1 - d) ≡ s = omega arith in
       let q : 2 ^ d * 2 * 2 ^ (s - 1 - d) ≡ 2 ^ s = ap (λ (x : ℕ). x * 2 ^ (s - 1 - d)) (sym (pow-suc 2 d)) ∙ sym (pow-add 2 (suc d) (s - 1 - d)) ∙ ap (λ (x : ℕ). 2 ^ x) e in

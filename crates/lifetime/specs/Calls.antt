@@ -1,0 +1,117 @@
+-- What a call's answer tells: which checks passed, and what the maps gave. Assumes nothing.
+use mathlib.Core.Path.{_≡_, refl, sym, ap, _∙_, subst}
+use mathlib.Core.List.{List}
+use Prim.Native.Nat.{ℕ, suc, _+_, _-_, _≤_, _<_}
+use native.Mathlib.Decide.{ℕ-discrete, decLe, decLt}
+use native.Mathlib.Omega.{arith}
+use Rattle.laws.specs.Lists.{low-all}
+use lib.ListN.{length, getD, replicate}
+use Rattle.rules.specs.Search.{pick, Found, at, nowhere, first, Result, done, noPlace}
+use Rattle.rules.specs.SearchLaws.{First, hit, miss, first-is}
+use Rattle.rules.specs.Cells.{sum, Low, firstAbove}
+use Rattle.rules.specs.Accept.{Genuine, genuine?, guarantee}
+use Rattle.rules.specs.Calls.{Sound, sound?, changeSheet, ask, andThen, levelCheck, checkShape, checkLength, checkOutput, checkBit, checkLevels, checkSheet, eraseChecks, readChecks, changeChecks, Outcome, erasing, eraseCall, changed, changing, changeCall, Reading, reading, readCall}
+use Rattle.rules.specs.declared.Settings.{Settings}
+use Rattle.rules.specs.declared.Answer.{Answer}
+use Rattle.rules.specs.declared.Answer.the-variants.{Done, BadShape, BadLength, ShortOutput, BadBit, BadLevel, BadSheet, Erase, BadRecord}
+use Rattle.rules.specs.declared.Check.{Check}
+use Rattle.rules.specs.declared.Check.the-variants.{Pass, Refuse}
+
+-- a sheet that every call accepts
+pub record Accepted (r : Settings) (xs : List ℕ) : Type 0 where
+  pub genuine : Genuine r
+  pub long : length xs ≡ r .n
+  pub low : Low (r .top) xs
+  pub sound : Sound r xs
+
+-- ---- checks
+
+-- the answer of a check that refuses: neither Done nor Erase
+abbrev pub Refusal : Answer → Type 0
+Refusal (Done v) = ⊥
+Refusal BadShape = Unit {0}
+Refusal BadLength = Unit {0}
+Refusal ShortOutput = Unit {0}
+Refusal BadBit = Unit {0}
+Refusal (BadLevel c) = Unit {0}
+Refusal BadSheet = Unit {0}
+Refusal Erase = ⊥
+Refusal BadRecord = Unit {0}
+
+-- what a check found: it passed, and what it asks for holds; or it refused with a refusal's answer
+pub data Checked (A : Type 0) : Check → Type 0 where
+  passed : A → Checked A Pass
+  refused : (a : Answer) → Refusal a → Checked A (Refuse a)
+
+ask-is : {A : Type 0} (d : Dec A) (a : Answer) → Refusal a → Checked A (ask d a)
+ask-is (yes h) a q = passed h
+ask-is (no h) a q = refused a q
+
+-- one check after another
+then-is : {A B : Type 0} {c d : Check} → Checked A c → Checked B d → Checked (A × B) (andThen c d)
+then-is (passed a) (passed b) = passed (a, b)
+then-is (passed a) (refused x q) = refused x q
+then-is (refused x q) h = refused x q
+
+level-is : (L : ℕ) (xs : List ℕ) → Checked (Low L xs) (levelCheck (firstAbove L xs))
+unfolding firstAbove
+level-is L xs = go (first-is (λ c. decLt L (getD xs c 0)) (length xs))
+  where
+    go : {f : Found} → First (λ c. L < getD xs c 0) (length xs) f → Checked (Low L xs) (levelCheck f)
+    go (hit j l h b) = refused (BadLevel j) tt
+    go (miss b) = passed (low-all L xs (λ c l. let q : ¬ (L < getD xs c 0) = b c l in omega arith))
+
+accepted-from : (r : Settings) (xs : List ℕ) → Genuine r → length xs ≡ r .n → Low (r .top) xs → Sound r xs → Accepted r xs
+accepted-from r xs g e l s = record { genuine = g; long = e; low = l; sound = s }
+
+-- what follows from what a check asks for
+weaker : {A B : Type 0} {c : Check} → (A → B) → Checked A c → Checked B c
+weaker f (passed a) = passed (f a)
+weaker f (refused x q) = refused x q
+
+-- the checks of each call ask for these
+pub erase-checks : (r : Settings) (xs : List ℕ) → Checked (Genuine r × (length xs ≡ r .n)) (eraseChecks r xs)
+erase-checks r xs = then-is (ask-is (genuine? r) BadShape tt) (ask-is (ℕ-discrete (length xs) (r .n)) BadLength tt)
+
+pub read-checks : (r : Settings) (xs out : List ℕ) → Checked (Accepted r xs × (r .k ≤ length out)) (readChecks r xs out)
+read-checks r xs out = weaker (λ p. (accepted-from r xs (p .0) (p .1 .0) (p .1 .1 .1 .0) (p .1 .1 .1 .1), p .1 .1 .0))
+    (then-is (ask-is (genuine? r) BadShape tt) (then-is (ask-is (ℕ-discrete (length xs) (r .n)) BadLength tt)
+    (then-is (ask-is (decLe (r .k) (length out)) ShortOutput tt) (then-is (level-is (r .top) xs) (ask-is (sound? r xs) BadSheet tt)))))
+
+pub change-checks : (r : Settings) (xs : List ℕ) (i : ℕ) → Checked (Accepted r xs × (i < r .k)) (changeChecks r xs i)
+change-checks r xs i = weaker (λ p. (accepted-from r xs (p .0) (p .1 .0) (p .1 .1 .1 .0) (p .1 .1 .1 .1), p .1 .1 .0))
+    (then-is (ask-is (genuine? r) BadShape tt) (then-is (ask-is (ℕ-discrete (length xs) (r .n)) BadLength tt)
+    (then-is (ask-is (decLt i (r .k)) BadBit tt) (then-is (level-is (r .top) xs) (ask-is (sound? r xs) BadSheet tt)))))
+
+-- ---- calls
+
+-- what a change comes to
+pub data Making (r : Settings) (xs : List ℕ) (i : ℕ) : Outcome → Type 0 where
+  refuses : (a : Answer) → Refusal a → Making r xs i (record { answer = a; sheet = xs })
+  erases : Accepted r xs → i < r .k → changeSheet r xs i ≡ noPlace → Making r xs i (record { answer = Erase; sheet = xs })
+  makes : (ys : List ℕ) → Accepted r xs → i < r .k → changeSheet r xs i ≡ done ys → Making r xs i (record { answer = Done (sum ys - sum xs); sheet = ys })
+
+pub change-is : (r : Settings) (xs : List ℕ) (i : ℕ) → Making r xs i (changeCall r xs i)
+unfolding changeCall
+change-is r xs i = go (change-checks r xs i)
+  where
+    what : Accepted r xs → i < r .k → (q : Result (List ℕ)) → changeSheet r xs i ≡ q → Making r xs i (changed xs q)
+    what a l (done ys) e = makes ys a l e
+    what a l noPlace e = erases a l e
+
+    go : {c : Check} → Checked (Accepted r xs × (i < r .k)) c → Making r xs i (changing r xs i c)
+    go (passed p) = what (p .0) (p .1) (changeSheet r xs i) refl
+    go (refused a q) = refuses a q
+
+-- what erasing comes to
+pub data Erasing (r : Settings) (xs : List ℕ) : Outcome → Type 0 where
+  refuses : (a : Answer) → Refusal a → Erasing r xs (record { answer = a; sheet = xs })
+  erases : Genuine r → length xs ≡ r .n → Erasing r xs (record { answer = Done (guarantee r); sheet = replicate (r .n) 0 })
+
+pub erase-is : (r : Settings) (xs : List ℕ) → Erasing r xs (eraseCall r xs)
+unfolding eraseCall
+erase-is r xs = go (erase-checks r xs)
+  where
+    go : {c : Check} → Checked (Genuine r × (length xs ≡ r .n)) c → Erasing r xs (erasing r xs c)
+    go (passed p) = erases (p .0) (p .1)
+    go (refused a q) = refuses a q
