@@ -3,7 +3,7 @@ use mathlib.Core.Path.{_≡_, refl, ap}
 use Prim.Native.Nat.{ℕ, zero, suc, _+_, _-_, _*_, _/_, _%_, _^_, _≤_, _<_}
 use native.Mathlib.Decide.{ℕ-discrete, decLe, decLt}
 use Rattle.rules.specs.Search.{pick, both?, Found, at, nowhere, first}
-use Rattle.rules.specs.Batches.{indexCells}
+use Rattle.rules.specs.Batches.{batchCells, indexCells}
 use Rattle.rules.specs.declared.Settings.{Settings}
 
 -- ---- the limits
@@ -45,6 +45,10 @@ acceptPlain k L n =
 abbrev pub placeOf : Found → ℕ
 placeOf (at j) = j
 placeOf nowhere = 0
+
+-- the s from 0 to 6 with 2 ^ s = k; 0 where there is none
+unfoldable pub stagesOf : ℕ → ℕ
+stagesOf k = placeOf (first (λ s. ℕ-discrete (2 ^ s) k) (suc mostStages))
 
 -- the least w with (L + 1) ^ w at least k + 2
 unfoldable pub indexWidth : ℕ → ℕ → ℕ
@@ -107,3 +111,13 @@ guaranteeAt (suc kind) r = r .m * r .k * r .top - (r .k - 1) * (2 * r .top + r .
 
 unfoldable pub guarantee : Settings → ℕ
 guarantee r = guaranteeAt (r .kind) r
+
+-- the guarantee reported for settings; 0 for a record that acceptance never gives
+unfoldable pub promised : Settings → ℕ
+promised r = pick (genuine? r) (guarantee r) 0
+
+-- ---- where a batch stands
+
+-- the first cell of a batch from 1 to s - 1; 0 for any other number, and for a record that acceptance never gives
+unfoldable pub batchStart : Settings → ℕ → ℕ
+batchStart r b = pick (both? (genuine? r) (both? (decLe 1 b) (decLt b (r .s)))) (r .m * r .k + (b - 1) * batchCells (r .s) (r .w)) 0

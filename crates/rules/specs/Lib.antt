@@ -9,5 +9,6 @@ pub mod Stage
 pub mod Staged
 pub mod Batches
 pub mod Accept
+pub mod AcceptLaws
 pub mod Calls
 pub mod Numbers
