@@ -4,10 +4,10 @@ use mathlib.Core.List.{List}
 use Prim.Native.Nat.{ℕ, suc, _+_, _-_, _≤_, _<_}
 use native.Mathlib.Decide.{ℕ-discrete, decLe, decLt}
 use native.Mathlib.Omega.{arith}
-use Rattle.laws.specs.Lists.{low-all}
+use Rattle.laws.specs.Lists.{low-all, low-at}
 use lib.ListN.{length, getD, replicate}
 use Rattle.rules.specs.Search.{pick, Found, at, nowhere, first, Result, done, noPlace}
-use Rattle.rules.specs.SearchLaws.{First, hit, miss, first-is}
+use Rattle.rules.specs.SearchLaws.{pick-yes, First, hit, miss, first-is, first-eq}
 use Rattle.rules.specs.Cells.{sum, Low, firstAbove}
 use Rattle.rules.specs.Accept.{Genuine, genuine?, guarantee}
 use Rattle.rules.specs.Calls.{Sound, sound?, changeSheet, ask, andThen, levelCheck, checkShape, checkLength, checkOutput, checkBit, checkLevels, checkSheet, eraseChecks, readChecks, changeChecks, Outcome, erasing, eraseCall, changed, changing, changeCall, Reading, reading, readCall}
@@ -82,6 +82,30 @@ pub change-checks : (r : Settings) (xs : List ℕ) (i : ℕ) → Checked (Accept
 change-checks r xs i = weaker (λ p. (accepted-from r xs (p .0) (p .1 .0) (p .1 .1 .1 .0) (p .1 .1 .1 .1), p .1 .1 .0))
     (then-is (ask-is (genuine? r) BadShape tt) (then-is (ask-is (ℕ-discrete (length xs) (r .n)) BadLength tt)
     (then-is (ask-is (decLt i (r .k)) BadBit tt) (then-is (level-is (r .top) xs) (ask-is (sound? r xs) BadSheet tt)))))
+
+-- checks that all pass, from what they ask for
+ask-passes : {A : Type 0} (d : Dec A) (a : Answer) → A → ask d a ≡ Pass
+ask-passes d a h = pick-yes d Pass (Refuse a) h
+
+then-passes : {c d : Check} → c ≡ Pass → d ≡ Pass → andThen c d ≡ Pass
+then-passes {c} {d} p q = ap (λ (x : Check). andThen x d) p ∙ q
+
+level-passes : (L : ℕ) (xs : List ℕ) → Low L xs → levelCheck (firstAbove L xs) ≡ Pass
+unfolding firstAbove
+level-passes L xs h = ap levelCheck (first-eq (λ c. decLt L (getD xs c 0)) (length xs) (miss (λ c l q. let z : getD xs c 0 ≤ L = low-at L xs h c in omega arith)))
+
+pub change-passes : (r : Settings) (xs : List ℕ) (i : ℕ) → Accepted r xs → i < r .k → changeChecks r xs i ≡ Pass
+change-passes r xs i a l =
+    then-passes (ask-passes (genuine? r) BadShape (a .genuine)) (then-passes (ask-passes (ℕ-discrete (length xs) (r .n)) BadLength (a .long))
+    (then-passes (ask-passes (decLt i (r .k)) BadBit l) (then-passes (level-passes (r .top) xs (a .low)) (ask-passes (sound? r xs) BadSheet (a .sound)))))
+
+pub read-passes : (r : Settings) (xs out : List ℕ) → Accepted r xs → r .k ≤ length out → readChecks r xs out ≡ Pass
+read-passes r xs out a l =
+    then-passes (ask-passes (genuine? r) BadShape (a .genuine)) (then-passes (ask-passes (ℕ-discrete (length xs) (r .n)) BadLength (a .long))
+    (then-passes (ask-passes (decLe (r .k) (length out)) ShortOutput l) (then-passes (level-passes (r .top) xs (a .low)) (ask-passes (sound? r xs) BadSheet (a .sound)))))
+
+pub erase-passes : (r : Settings) (xs : List ℕ) → Genuine r → length xs ≡ r .n → eraseChecks r xs ≡ Pass
+erase-passes r xs g e = then-passes (ask-passes (genuine? r) BadShape g) (ask-passes (ℕ-discrete (length xs) (r .n)) BadLength e)
 
 -- ---- calls
 

@@ -10,3 +10,4 @@ pub mod Staged
 pub mod Storage
 pub mod Batches
 pub mod Calls
+pub mod Change
