@@ -129,13 +129,13 @@ change-is r xs i = go (change-checks r xs i)
 
 -- what erasing comes to
 pub data Erasing (r : Settings) (xs : List ℕ) : Outcome → Type 0 where
-  refuses : (a : Answer) → Refusal a → Erasing r xs (record { answer = a; sheet = xs })
-  erases : Genuine r → length xs ≡ r .n → Erasing r xs (record { answer = Done (guarantee r); sheet = replicate (r .n) 0 })
+  refusing : (a : Answer) → Refusal a → Erasing r xs (record { answer = a; sheet = xs })
+  clears : Genuine r → length xs ≡ r .n → Erasing r xs (record { answer = Done (guarantee r); sheet = replicate (r .n) 0 })
 
 pub erase-is : (r : Settings) (xs : List ℕ) → Erasing r xs (eraseCall r xs)
 unfolding eraseCall
 erase-is r xs = go (erase-checks r xs)
   where
     go : {c : Check} → Checked (Genuine r × (length xs ≡ r .n)) c → Erasing r xs (erasing r xs c)
-    go (passed p) = erases (p .0) (p .1)
-    go (refused a q) = refuses a q
+    go (passed p) = clears (p .0) (p .1)
+    go (refused a q) = refusing a q

@@ -1,10 +1,10 @@
 -- Demand 2 for the whole call, for every accepted sheet of either kind. Assumes nothing.
 use mathlib.Core.Path.{_≡_, refl, sym, ap, _∙_, subst}
-use mathlib.Core.Logic.{_≢_, _⊎_, inl, inr, ⊎-elim}
+use mathlib.Core.Logic.{_≢_, _↔_, ⊎-elim}
 use mathlib.Core.List.{List}
 use Prim.Native.Nat.{ℕ, zero, suc, _+_, _-_, _*_, _^_, _≤_, _<_}
 use native.Mathlib.Omega.{arith}
-use lib.ListN.{length}
+use lib.ListN.{length, replicate}
 use Rattle.rules.specs.Search.{Result, done, noPlace}
 use Rattle.rules.specs.Cells.{sum, Low, Rises}
 use Rattle.rules.specs.Plain.{Spare}
@@ -20,6 +20,7 @@ use Rattle.rules.specs.declared.Settings.{Settings}
 use Rattle.rules.specs.declared.Answer.{Answer}
 use Rattle.rules.specs.declared.Answer.the-variants.{Done, Erase}
 use Rattle.laws.specs.Lists.{rises-sum}
+use Rattle.lifetime.specs.Place.{NoBlockLeft, NoPlace, plain-place, cells-place}
 use Rattle.lifetime.specs.PlainSheet as P
 use Rattle.lifetime.specs.Storage as T
 use Rattle.lifetime.specs.Storage.{Storage}
@@ -41,7 +42,7 @@ module _ (r : Settings) (p : PlainFacts r) where
       let q : R.Sound (r .k) (r .top) (r .m) (r .n) xs = subst (λ (x : ℕ). SoundAt x r xs) (p .plain) (a .sound) in
       record { long = a .long; low = a .low; lawful = P.blocks-lawful (r .k) (r .top) (r .m) xs (omega (arith, p .bits-least)) (p .top-least) (q .0); spare = q .1 }
 
-  is-plain : (xs : List ℕ) → Genuine r → P.Accepted (r .k) (r .top) (r .m) (r .n) xs → Accepted r xs
+  pub is-plain : (xs : List ℕ) → Genuine r → P.Accepted (r .k) (r .top) (r .m) (r .n) xs → Accepted r xs
   is-plain xs g a = record {
     genuine = g;
     long = a .long;
@@ -74,13 +75,13 @@ module _ (r : Settings) (p : PlainFacts r) where
 -- ---- kind 1
 
 module _ (r : Settings) (p : StagedFacts r) where
-  abbrev means : List ℕ → Sheet
+  abbrev pub means : List ℕ → Sheet
   means = decode (r .s) (r .m) (r .top) (r .w)
 
-  abbrev back : List ℕ → Sheet → List ℕ
+  abbrev pub back : List ℕ → Sheet → List ℕ
   back = write (r .s) (r .m) (r .top) (r .w)
 
-  abbrev Clean : List ℕ → Type 0
+  abbrev pub Clean : List ℕ → Type 0
   Clean = Spare (r .m * 2 ^ r .s + indexCells (r .s) (r .w)) (r .n)
 
   enough : 2 ^ r .s + 2 ≤ suc (r .top) ^ r .w
@@ -92,7 +93,7 @@ module _ (r : Settings) (p : StagedFacts r) where
   pub many : 2 ^ r .s ≤ r .m
   many = subst (λ (k : ℕ). k ≤ r .m) (sym (p .bits)) (p .room)
 
-  below : {i : ℕ} → i < r .k → i < 2 ^ r .s
+  pub below : {i : ℕ} → i < r .k → i < 2 ^ r .s
   below {i} l = subst (λ (k : ℕ). i < k) (sym (p .bits)) l
 
   -- the batches store the index blocks as the stages need
@@ -142,6 +143,12 @@ module _ (r : Settings) (p : StagedFacts r) where
 pub sheet-changed : (r : Settings) (i : ℕ) (xs ys : List ℕ) → Accepted r xs → i < r .k → changeSheet r xs i ≡ done ys → Changed r i xs ys
 sheet-changed r i xs ys a l e = ⊎-elim (λ p. plain-changed r p i xs ys a l e) (λ p. staged-changed r p i xs ys a l e) (genuine-facts r (a .genuine))
 
+-- an erased sheet is accepted
+pub erased-accepted : (r : Settings) → Genuine r → Accepted r (replicate (r .n) 0)
+erased-accepted r g = ⊎-elim (λ p. is-plain r p (replicate (r .n) 0) g (P.start (r .k) (r .top) (r .m) (r .n) (p .bits-least) (p .top-least) (p .even) (p .inside)))
+    (λ p. is-staged r p (replicate (r .n) 0) g (T.run-law (r .s) (r .m) (r .top) (r .n) (means r p) (back r p) (Clean r p) (stored r p) (p .top-least) (p .stages-least) (many r p) T.begin .0))
+    (genuine-facts r g)
+
 -- what an answer Done of a change says
 pub record Made (r : Settings) (xs : List ℕ) (i v : ℕ) (ys : List ℕ) : Type 0 where
   pub accepted : Accepted r xs
@@ -188,3 +195,28 @@ erase-answered r xs i a l n = ap (λ (c : Check). changing r xs i c .answer) (ch
 pub done-answered : (r : Settings) (xs ys : List ℕ) (i : ℕ) → Accepted r xs → i < r .k → changeSheet r xs i ≡ done ys → changeCall r xs i ≡ record { answer = Done (sum ys - sum xs); sheet = ys }
 unfolding changeCall
 done-answered r xs ys i a l n = ap (changing r xs i) (change-passes r xs i a l) ∙ ap (changed xs) n
+
+-- ---- Erase, in the words of document 01
+
+abbrev pub NoPlaceAt : ℕ → Settings → List ℕ → ℕ → Type 0
+NoPlaceAt zero r xs i = NoBlockLeft (r .k) (r .top) (r .m) i xs
+NoPlaceAt (suc kind) r xs i = NoPlace (r .s) (r .m) (r .top) i (decode (r .s) (r .m) (r .top) (r .w) xs)
+
+-- plain: no block is the bit's and none is empty; staged: nor is there a place in the stage or in a later one
+abbrev pub NoPlaceLeft : Settings → List ℕ → ℕ → Type 0
+NoPlaceLeft r xs i = NoPlaceAt (r .kind) r xs i
+
+place-at : (kind : ℕ) (r : Settings) (xs : List ℕ) (i : ℕ) → changeAt kind r xs i ≡ noPlace ↔ NoPlaceAt kind r xs i
+place-at zero r xs i = plain-place (r .k) (r .top) (r .m) i xs
+place-at (suc kind) r xs i = cells-place (r .s) (r .m) (r .top) (decode (r .s) (r .m) (r .top) (r .w)) (write (r .s) (r .m) (r .top) (r .w)) i xs
+
+pub sheet-place : (r : Settings) (xs : List ℕ) (i : ℕ) → changeSheet r xs i ≡ noPlace ↔ NoPlaceLeft r xs i
+unfolding changeSheet
+sheet-place r xs i = place-at (r .kind) r xs i
+
+-- demand 2: Erase exactly on an accepted sheet with no place for an existing bit
+pub erase-exactly : (r : Settings) (xs : List ℕ) (i : ℕ) → changeCall r xs i .answer ≡ Erase ↔ (Accepted r xs × (i < r .k) × NoPlaceLeft r xs i)
+erase-exactly r xs i = (
+  λ e. let h : NoRoom r xs i (changeCall r xs i .sheet) = erase-tells r xs i e in (h .accepted, h .bit, sheet-place r xs i .0 (h .maps)),
+  λ h. erase-answered r xs i (h .0) (h .1) (sheet-place r xs i .1 (h .2)),
+)

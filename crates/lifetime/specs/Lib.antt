@@ -11,3 +11,5 @@ pub mod Storage
 pub mod Batches
 pub mod Calls
 pub mod Change
+pub mod Place
+pub mod Run
