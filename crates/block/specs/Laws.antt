@@ -1,18 +1,18 @@
--- Laws of sums, of the greatest level, of the first cell above a level, and of cells that are all 0. Assumes nothing.
+-- Laws of sums, of the greatest level, of the first cell above a level, of cells that are all 0, and of the sheet from a block on. Assumes nothing.
 use mathlib.Core.Bool.{Bool, true, false}
-use mathlib.Core.List.{List, [], _∷_, _++_}
+use mathlib.Core.List.{List, [], _∷_, _++_, append-nil}
 use mathlib.Core.Path.{_≡_, _∙_, ap, ap₂, refl, subst, sym}
-use Prim.Native.Nat.{ℕ, zero, suc, _+_, _≤_, _<_, max}
+use Prim.Native.Nat.{ℕ, zero, suc, _+_, _-_, _*_, _≤_, _<_, max}
 use native.Mathlib.Decide.{decLt}
 use native.Mathlib.Nat.{le-of-suc-le-suc, not-suc-le-zero}
 use native.Mathlib.Numerals.{add-one}
 use native.Mathlib.Omega.{arith}
 use borrow.Author.Tests.{eq-eqb, ne-eqb}
 use lib.Dec.{eqb}
-use lib.ListN.{length, getD, take, replicate}
-use lib.Seq.{take-suc}
+use lib.ListN.{length, getD, take, drop, replicate, length-drop, drop-of-length-le}
+use lib.Seq.{take-suc, take-all, drop-drop}
 use Rattle.laws.specs.Lists.{sum-part}
-use Rattle.rules.specs.Cells.{Low, firstAbove, same?, sum}
+use Rattle.rules.specs.Cells.{Low, block, firstAbove, same?, store, sum}
 use Rattle.rules.specs.Search.{Found, at, nowhere, pick}
 use Rattle.rules.specs.SearchLaws.{First, hit, miss, first-eq, first-is, pick-elim}
 use Rattle.block.specs.Meaning.{greatestOf}
@@ -103,3 +103,21 @@ all-zero-is s =
     pick-elim (λ b. eqb (greatestOf s) 0 ≡ b) (same? s (replicate (length s) 0)) true false
     (λ e. eq-eqb (greatestOf s) 0 (ap greatestOf e ∙ zero-greatest (length s)))
     (λ n. ne-eqb (greatestOf s) 0 (λ e. n (greatest-zero s e)))
+
+-- ---- the sheet from block j on
+
+module _ (k : ℕ) (s : List ℕ) (j : ℕ) where
+  part-all : take (length s - j * k) (drop (j * k) s) ≡ drop (j * k) s
+  part-all = take-all (length s - j * k) (drop (j * k) s) (omega (arith, length-drop (j * k) s))
+
+  -- the part's first k cells are block j
+  pub part-block : take k (take (length s - j * k) (drop (j * k) s)) ≡ block k s j
+  unfolding block
+  part-block = ap (take k) part-all
+
+  -- the part with its first k cells set to b, put back, is the sheet with block j set to b
+  pub part-back : (b : List ℕ) → take (j * k) s ++ ((b ++ drop k (take (length s - j * k) (drop (j * k) s))) ++ drop (length s - j * k) (drop (j * k) s)) ≡ store k s j b
+  unfolding store
+  part-back b =
+      let h : length (drop (j * k) s) ≤ length s - j * k = omega (arith, length-drop (j * k) s) in
+      rw (part-all, drop-of-length-le (drop (j * k) s) h, append-nil (b ++ drop k (drop (j * k) s)), drop-drop k (j * k) s)

@@ -1,10 +1,12 @@
 // One block and runs of cells: sums, levels, a block's state and its next step. Assumes nothing.
 ghost use mathlib.Core.Bool.{true, false};
+ghost use mathlib.Core.List.{_++_};
 ghost use mathlib.Core.Path.{_≡_};
-ghost use Prim.Native.Nat.{_≤_};
-ghost use lib.ListN.{length, replicate};
+ghost use Prim.Native.Nat.{_+_, _*_, _≤_, _<_};
+ghost use lib.ListN.{length, take, drop, replicate};
 ghost use Rattle.rules.specs.Search.{pick};
-ghost use Rattle.rules.specs.Cells.{sum, firstAbove, same?};
+ghost use Rattle.rules.specs.Cells.{sum, firstAbove, same?, block, store};
+ghost use Rattle.rules.specs.Block.{cycle};
 ghost use Rattle.block.specs.Meaning.{greatestOf, asFound};
 
 // What a look at the levels finds: none above the top level, or the first cell that is.
@@ -65,4 +67,24 @@ pub fn all_zero(s: &[u8]) -> bool
     ensures { λ r. ⌜ r ≡ pick (same? (now (s .entry)) (replicate (length (now (s .entry))) 0)) true false ⌝ }
 {
     greatest(s) == 0
+}
+
+// The next step of a block on the cycle of a bit, in a part of the sheet that begins with the block: one cell is raised.
+pub fn raise_step(part: &mut [u8], k: usize, top: u8, bit: usize, weight: usize)
+    requires { ⌜ (2 ≤ k) × (k ≤ length (now part)) × (bit < k) × (1 ≤ top) × (weight < k * top) ⌝ }
+    requires { ⌜ take k (now part) ≡ cycle k top bit weight ⌝ }
+    ensures { λ _. ⌜ now (part .exit) ≡ cycle k top bit (weight + 1) ++ drop k (now (part .entry)) ⌝ }
+{
+    let cell = (bit + weight / top as usize) % k;
+    part[cell] += 1;
+}
+
+// The next step of block j of the sheet: the part from j times k on is lent on.
+pub fn raise_block(sheet: &mut [u8], k: usize, top: u8, j: usize, bit: usize, weight: usize)
+    requires { ⌜ (2 ≤ k) × (j * k + k ≤ length (now sheet)) × (bit < k) × (1 ≤ top) × (weight < k * top) ⌝ }
+    requires { ⌜ block k (now sheet) j ≡ cycle k top bit weight ⌝ }
+    ensures { λ _. ⌜ now (sheet .exit) ≡ store k (now (sheet .entry)) j (cycle k top bit (weight + 1)) ⌝ }
+{
+    let a = j * k;
+    raise_step(&mut sheet[a..], k, top, bit, weight);
 }

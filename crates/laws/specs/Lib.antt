@@ -3,5 +3,6 @@ pub mod Lists
 pub mod Distinct
 pub mod Cut
 pub mod Block
+pub mod Step
 pub mod Plain
 pub mod PlainSheet
