@@ -1,0 +1,22 @@
+-- `block::all_zero` meets its contract: all cells are 0 if the greatest is. Assumes nothing.
+use mathlib.Core.Path.{_∙_, ap}
+use Prim.Native.Nat.{ℕ}
+use borrow.Author.Needs.{needs}
+use lib.Dec.{eqb}
+use Rattle.block.specs.Laws.{all-zero-is}
+use Rattle.block.proofs.all_zero.Statement.{statement}
+use Rattle.block.proofs.all_zero.Tie as tie
+use Rattle.block.proofs.all_zero.Reads as reads
+use Rattle.block.proofs.all_zero.Lts as lts
+use Rattle.block.proofs.greatest.Reads as greatest-reads
+
+-- src/lib.rt:67:5
+greatest-requires : tie.Need-greatest-requires
+greatest-requires c κs = search needs
+
+-- src/lib.rt:64:1
+returns : tie.Need-returns
+returns c = ap (λ (r : ℕ). eqb r 0) (c .greatest .ensures) ∙ all-zero-is (c .before .before .args .s .now)
+
+pub all-zero-spec : {M : Type 1} → statement M
+all-zero-spec = tie.close (tie.spec greatest-requires returns)

@@ -1,0 +1,123 @@
+-- Laws of sums, of the greatest level, of the first cell above a level, of cells that are all 0, and of the sheet from a block on. Assumes nothing.
+use mathlib.Core.Bool.{Bool, true, false}
+use mathlib.Core.List.{List, [], _∷_, _++_, append-nil}
+use mathlib.Core.Path.{_≡_, _∙_, ap, ap₂, refl, subst, sym}
+use Prim.Native.Nat.{ℕ, zero, suc, _+_, _-_, _*_, _≤_, _<_, max}
+use native.Mathlib.Decide.{decLt}
+use native.Mathlib.Nat.{le-of-suc-le-suc, not-suc-le-zero}
+use native.Mathlib.Numerals.{add-one}
+use native.Mathlib.Omega.{arith}
+use borrow.Author.Tests.{eq-eqb, ne-eqb}
+use lib.Dec.{eqb}
+use lib.ListN.{length, getD, take, drop, replicate, length-drop, drop-of-length-le}
+use lib.Seq.{take-suc, take-all, drop-drop}
+use Rattle.laws.specs.Lists.{sum-part}
+use Rattle.rules.specs.Cells.{Low, block, firstAbove, same?, store, sum}
+use Rattle.rules.specs.Search.{Found, at, nowhere, pick}
+use Rattle.rules.specs.SearchLaws.{First, hit, miss, first-eq, first-is, pick-elim}
+use Rattle.block.specs.Meaning.{greatestOf}
+
+-- ---- sums
+
+-- what a loop adds: one more cell
+pub sum-take : (s : List ℕ) (i : ℕ) → i < length s → sum (take (i + 1) s) ≡ sum (take i s) + getD s i 0
+sum-take s i h =
+    let z : 0 + i ≡ i = omega arith in
+    sum-part 0 i s (omega arith) ∙ ap (λ (n : ℕ). sum (take i s) + getD s n 0) z
+
+-- ---- the greatest level
+
+-- the greatest of two runs
+greatest-append : (s t : List ℕ) → greatestOf (s ++ t) ≡ max (greatestOf s) (greatestOf t)
+unfolding greatestOf
+greatest-append [] t = omega arith
+greatest-append (x ∷ s) t = omega (arith, greatest-append s t)
+
+-- what a loop takes in: one more cell
+pub greatest-take : (s : List ℕ) (i : ℕ) → i < length s → greatestOf (take (i + 1) s) ≡ max (greatestOf (take i s)) (getD s i 0)
+unfolding greatestOf
+greatest-take s i h =
+    ap (λ (n : ℕ). greatestOf (take n s)) (add-one i)
+    ∙ ap greatestOf (take-suc s i 0 h)
+    ∙ greatest-append (take i s) (getD s i 0 ∷ [])
+    ∙ omega arith
+
+-- the greatest level is at most L exactly if no level is above L
+pub greatest-low : (L : ℕ) (s : List ℕ) → greatestOf s ≤ L → Low L s
+unfolding greatestOf
+greatest-low L [] h = tt
+greatest-low L (x ∷ s) h = (omega arith, greatest-low L s (omega arith))
+
+pub low-greatest : (L : ℕ) (s : List ℕ) → Low L s → greatestOf s ≤ L
+unfolding greatestOf
+low-greatest L [] h = omega arith
+low-greatest L (x ∷ s) h = omega (arith, low-greatest L s (h .1))
+
+-- ---- the first cell above L
+
+-- no level is above L, cell by cell
+pub low-at : (L : ℕ) (s : List ℕ) → Low L s → (c : ℕ) → getD s c 0 ≤ L
+low-at L [] h zero = omega arith
+low-at L [] h (suc c) = omega arith
+low-at L (x ∷ s) h zero = h .0
+low-at L (x ∷ s) h (suc c) = low-at L s (h .1) c
+
+low-cells : (L : ℕ) (s : List ℕ) → ((c : ℕ) → c < length s → getD s c 0 ≤ L) → Low L s
+low-cells L [] h = tt
+low-cells L (x ∷ s) h = (h 0 (omega arith), low-cells L s (λ c l. h (suc c) (omega arith)))
+
+-- a search that found nothing
+none-there : {P : ℕ → Type 0} {m : ℕ} → First P m nowhere → (c : ℕ) → c < m → ¬ (P c)
+none-there (miss b) = b
+
+-- whoever shows what an answer means has the first cell above L
+pub above-is : (L : ℕ) (s : List ℕ) {f : Found} → First (λ c. L < getD s c 0) (length s) f → f ≡ firstAbove L s
+unfolding firstAbove
+above-is L s h = sym (first-eq (λ c. decLt L (getD s c 0)) (length s) h)
+
+-- no cell is found above L exactly if no level is above L
+pub low-fine : (L : ℕ) (s : List ℕ) → Low L s → firstAbove L s ≡ nowhere
+low-fine L s h = sym (above-is L s (miss (λ c l q. omega (arith, low-at L s h c))))
+
+pub fine-low : (L : ℕ) (s : List ℕ) → firstAbove L s ≡ nowhere → Low L s
+unfolding firstAbove
+fine-low L s e =
+    let f : First (λ c. L < getD s c 0) (length s) nowhere = subst (First (λ c. L < getD s c 0) (length s)) e (first-is (λ c. decLt L (getD s c 0)) (length s)) in
+    low-cells L s (λ c l. let n : ¬ (L < getD s c 0) = none-there f c l in omega arith)
+
+-- ---- cells that are all 0
+
+greatest-zero : (s : List ℕ) → greatestOf s ≡ 0 → s ≡ replicate (length s) 0
+unfolding greatestOf
+greatest-zero [] e = refl
+greatest-zero (x ∷ s) e = ap₂ (λ (y : ℕ) (r : List ℕ). y ∷ r) (omega arith) (greatest-zero s (omega arith))
+
+zero-greatest : (n : ℕ) → greatestOf (replicate n 0) ≡ 0
+unfolding greatestOf
+zero-greatest zero = refl
+zero-greatest (suc n) = omega (arith, zero-greatest n)
+
+-- the greatest level is 0 exactly if all cells are
+pub all-zero-is : (s : List ℕ) → eqb (greatestOf s) 0 ≡ pick (same? s (replicate (length s) 0)) true false
+all-zero-is s =
+    pick-elim (λ b. eqb (greatestOf s) 0 ≡ b) (same? s (replicate (length s) 0)) true false
+    (λ e. eq-eqb (greatestOf s) 0 (ap greatestOf e ∙ zero-greatest (length s)))
+    (λ n. ne-eqb (greatestOf s) 0 (λ e. n (greatest-zero s e)))
+
+-- ---- the sheet from block j on
+
+module _ (k : ℕ) (s : List ℕ) (j : ℕ) where
+  part-all : take (length s - j * k) (drop (j * k) s) ≡ drop (j * k) s
+  part-all = take-all (length s - j * k) (drop (j * k) s) (omega (arith, length-drop (j * k) s))
+
+  -- the part's first k cells are block j
+  pub part-block : take k (take (length s - j * k) (drop (j * k) s)) ≡ block k s j
+  unfolding block
+  part-block = ap (take k) part-all
+
+  -- the part with its first k cells set to b, put back, is the sheet with block j set to b
+  pub part-back : (b : List ℕ) → take (j * k) s ++ ((b ++ drop k (take (length s - j * k) (drop (j * k) s))) ++ drop (length s - j * k) (drop (j * k) s)) ≡ store k s j b
+  unfolding store
+  part-back b =
+      let h : length (drop (j * k) s) ≤ length s - j * k = omega (arith, length-drop (j * k) s) in
+      rw (part-all, drop-of-length-le (drop (j * k) s) h, append-nil (b ++ drop k (drop (j * k) s)), drop-drop k (j * k) s)

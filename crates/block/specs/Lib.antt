@@ -1,0 +1,3 @@
+-- What the functions on one block and on runs of cells answer, and the laws of it.
+pub mod Meaning
+pub mod Laws
