@@ -1,15 +1,18 @@
 -- Laws of acceptance: what accepted settings keep, which records acceptance gives, and that all worked out of them is small. Assumes nothing.
 use mathlib.Core.Path.{_≡_, refl, sym, ap, subst, _∙_}
+use mathlib.Core.Bool.{Bool, true, false, true≢false}
 use mathlib.Core.Logic.{_⊎_, inl, inr, ⊎-elim, _↔_}
 use Prim.Native.Nat.{ℕ, zero, suc, _+_, _-_, _*_, _/_, _%_, _^_, _≤_, _<_}
-use native.Mathlib.Nat.{not-suc-le-zero, mul-le-mul, mul-le-mul-left, mul-le-mul-right, div-mul-le-self, pow-le-pow-left, le-trans}
+use native.Mathlib.Nat.{lt-irrefl, one-mul, pow-suc, mul-mod-left, mul-div-left, not-suc-le-zero, mul-le-mul, mul-le-mul-left, mul-le-mul-right, div-mul-le-self, pow-le-pow-left, le-trans}
 use native.Mathlib.Decide.{ℕ-discrete, decLe, decLt}
 use native.Mathlib.Omega.{arith}
-use lib.Pow.{pow-mono}
+use lib.Dec.{lit<}
+use lib.Pow.{pow-mono, pow-lt, shl-exact}
+use lib.Count.{trailingZeros}
 use Rattle.rules.specs.Search.{pick, both?, Found, at, nowhere, first}
 use Rattle.rules.specs.SearchLaws.{pick-elim, pick-yes, pick-no, First, hit, miss, first-is, first-eq, first-hit}
 use Rattle.rules.specs.Batches.{batchCells, indexCells}
-use Rattle.rules.specs.Accept.{mostBits, mostTop, mostCells, mostStages, refused, require, acceptPlain, placeOf, stagesOf, indexWidth, stagedRoom, stagedWith, acceptStaged, accept, again, Genuine, guarantee, guaranteeAt}
+use Rattle.rules.specs.Accept.{mostBits, mostTop, mostCells, mostStages, refused, require, acceptPlain, placeOf, stagesOf, indexWidth, stagedRoom, stagedWith, acceptStaged, accept, again, Genuine, sameSettings?, genuine?, guarantee, guaranteeAt, promised, batchStart}
 use Rattle.rules.specs.declared.Settings.{Settings}
 
 -- ---- s and w
@@ -27,6 +30,40 @@ stages-is k = go (first-is (λ s. ℕ-discrete (2 ^ s) k) (suc mostStages))
     go : {f : Found} → First (λ s. 2 ^ s ≡ k) (suc mostStages) f → 0 < placeOf f → (placeOf f ≤ mostStages) × (2 ^ placeOf f ≡ k)
     go (hit s l e b) h = (omega arith, e)
     go (miss b) h = absurd (not-suc-le-zero h)
+
+-- so an s of at least 2 is of 4 to 64 bits
+pub stages-bits : (k s : ℕ) → s ≡ stagesOf k → 2 ≤ s → (s ≤ mostStages) × (4 ≤ k) × (k ≤ mostBits)
+stages-bits k s e h =
+    let f = stages-is k (omega arith) in
+    let p : 2 ^ s ≡ k = rw e (f .1) in
+    let l : s ≤ mostStages = omega (arith, f .0) in
+    (l, rw (sym p) (pow-mono h), rw (sym p) (pow-mono l))
+
+-- 1 shifted by s is 2 ^ s
+pub shifted : (s : ℕ) → s ≤ mostStages → (1 * 2 ^ s) % 2 ^ 64 ≡ 2 ^ s
+shifted s h = let l : 1 + s ≤ 64 = omega arith in shl-exact {a = 1} 1 s 64 (lit< tt) l ∙ one-mul (2 ^ s)
+
+-- the zeros below the only digit of 2 ^ s are s
+trailing-pow : (d s : ℕ) → s < d → trailingZeros d (2 ^ s) ≡ s
+unfolding trailingZeros
+trailing-pow zero s h = omega arith
+trailing-pow (suc d) zero h = refl
+trailing-pow (suc d) (suc s) h = rw (pow-suc 2 s, mul-mod-left (2 ^ s) 2, mul-div-left (2 ^ s) (lit< tt)) (ap suc (trailing-pow d s (omega arith)))
+
+-- s is the number of zeros below the lowest digit of k, where that is at most 6 and k has no other digit
+pub stages-zeros : (k : ℕ) → trailingZeros 64 k ≤ mostStages → 2 ^ trailingZeros 64 k ≡ k → stagesOf k ≡ trailingZeros 64 k
+unfolding stagesOf
+stages-zeros k h e = ap placeOf (first-eq (λ s. ℕ-discrete (2 ^ s) k) (suc mostStages) (hit (trailingZeros 64 k) (omega arith) e (λ i l g. lt-irrefl (2 ^ i) (rw (e ∙ sym g) at (pow-lt l)))))
+
+-- there is no s otherwise
+pub stages-none : (k : ℕ) → (trailingZeros 64 k ≤ mostStages → ¬ (2 ^ trailingZeros 64 k ≡ k)) → stagesOf k ≡ 0
+unfolding stagesOf
+stages-none k h = ap placeOf (first-eq (λ s. ℕ-discrete (2 ^ s) k) (suc mostStages) (miss none))
+  where
+    none : (s : ℕ) → s < suc mostStages → ¬ (2 ^ s ≡ k)
+    none s l e =
+        let z : trailingZeros 64 k ≡ s = ap (trailingZeros 64) (sym e) ∙ trailing-pow 64 s (omega arith) in
+        h (omega arith) (ap (λ t. 2 ^ t) z ∙ e)
 
 -- k + 1 digits hold every index, so the search for the width ends
 width-reaches : (L k : ℕ) → 1 ≤ L → k + 2 ≤ suc L ^ (k + 1)
@@ -80,14 +117,14 @@ pub record PlainRules (k L n : ℕ) : Type 0 where
   pub even : k * L % 2 ≡ 0
   pub room : k ≤ n / k
 
--- the rules of kind 1, with s and w worked out
-pub record StagedRules (k L n s w : ℕ) : Type 0 where
+-- the rules of kind 1, with s and I worked out
+pub record StagedRules (k L n s I : ℕ) : Type 0 where
   pub stages-least : 2 ≤ s
   pub top-least : 1 ≤ L
   pub top-most : L ≤ mostTop
   pub cells-most : n ≤ mostCells
-  pub index-room : indexCells s w ≤ n
-  pub room : k ≤ (n - indexCells s w) / k
+  pub index-room : I ≤ n
+  pub room : k ≤ (n - I) / k
 
 -- what comes of rules A for a record x: x where they are kept, the record of zeros where they are not
 pub data Ruled (A : Type 0) (x : Settings) : Settings → Type 0 where
@@ -121,8 +158,8 @@ plain-ruled k L n =
     rule (decLe k (n / k)) (λ a. a .room) λ h₇.
     kept (record { bits-least = h₁; bits-most = h₂; top-least = h₃; top-most = h₄; cells-most = h₅; even = h₆; room = h₇ })
 
--- kind 1 is accepted by its rules, at any s and w
-pub room-ruled : (k L n s w : ℕ) → Ruled (StagedRules k L n s w) (record { kind = 1; k = k; top = L; n = n; m = (n - indexCells s w) / k; s = s; w = w }) (stagedRoom k L n s w)
+room-ruled : (k L n s w : ℕ) →
+    Ruled (StagedRules k L n s (indexCells s w)) (record { kind = 1; k = k; top = L; n = n; m = (n - indexCells s w) / k; s = s; w = w }) (stagedRoom k L n s w)
 room-ruled k L n s w =
     rule (decLe 2 s) (λ a. a .stages-least) λ h₁.
     rule (decLe 1 L) (λ a. a .top-least) λ h₂.
@@ -132,19 +169,19 @@ room-ruled k L n s w =
     rule (decLe k ((n - indexCells s w) / k)) (λ a. a .room) λ h₆.
     kept (record { stages-least = h₁; top-least = h₂; top-most = h₃; cells-most = h₄; index-room = h₅; room = h₆ })
 
--- kind 1 is accepted by its rules at the s of k and the width
-pub staged-ruled : (k L n : ℕ) →
-    Ruled (StagedRules k L n (stagesOf k) (indexWidth L k))
-    (record { kind = 1; k = k; top = L; n = n; m = (n - indexCells (stagesOf k) (indexWidth L k)) / k; s = stagesOf k; w = indexWidth L k })
-    (acceptStaged k L n)
+found-ruled : (k L n : ℕ) (f : Found) →
+    Ruled
+    (StagedRules k L n (placeOf f) (indexCells (placeOf f) (indexWidth L k)))
+    (record { kind = 1; k = k; top = L; n = n; m = (n - indexCells (placeOf f) (indexWidth L k)) / k; s = placeOf f; w = indexWidth L k })
+    (stagedWith k L n f)
+found-ruled k L n (at s) = room-ruled k L n s (indexWidth L k)
+found-ruled k L n nowhere = broken (λ a. not-suc-le-zero (le-trans (a .stages-least) (omega arith)))
+
+-- kind 1 is accepted by its rules, at the s of k, the width and their I
+pub staged-ruled : (k L n s w I : ℕ) → s ≡ stagesOf k → w ≡ indexWidth L k → I ≡ indexCells s w →
+    Ruled (StagedRules k L n s I) (record { kind = 1; k = k; top = L; n = n; m = (n - I) / k; s = s; w = w }) (acceptStaged k L n)
 unfolding acceptStaged stagesOf
-staged-ruled k L n = go (first (λ s. ℕ-discrete (2 ^ s) k) (suc mostStages))
-  where
-    go : (f : Found) → Ruled (StagedRules k L n (placeOf f) (indexWidth L k))
-        (record { kind = 1; k = k; top = L; n = n; m = (n - indexCells (placeOf f) (indexWidth L k)) / k; s = placeOf f; w = indexWidth L k })
-        (stagedWith k L n f)
-    go (at s) = room-ruled k L n s (indexWidth L k)
-    go nowhere = broken (λ a. not-suc-le-zero (le-trans (a .stages-least) (omega arith)))
+staged-ruled k L n s w I e₁ e₂ e₃ = rw (e₃, e₂, e₁) (found-ruled k L n (first (λ s. ℕ-discrete (2 ^ s) k) (suc mostStages)))
 
 -- no other kind is accepted
 pub other-refused : (kind k L n : ℕ) → ¬ (kind ≡ 0) → ¬ (kind ≡ 1) → accept kind k L n ≡ refused
@@ -210,7 +247,7 @@ plain-given {k} {n = n} (kept a) =
 plain-given (broken h) = refusal
 
 staged-given : {k L n s : ℕ} {r : Settings} → (0 < s → (s ≤ mostStages) × (2 ^ s ≡ k)) →
-    Ruled (StagedRules k L n s (indexWidth L k)) (record { kind = 1; k = k; top = L; n = n; m = (n - indexCells s (indexWidth L k)) / k; s = s; w = indexWidth L k }) r →
+    Ruled (StagedRules k L n s (indexCells s (indexWidth L k))) (record { kind = 1; k = k; top = L; n = n; m = (n - indexCells s (indexWidth L k)) / k; s = s; w = indexWidth L k }) r →
     Given 1 k L n r
 staged-given {k} {L} {n} {s} is (kept a) =
     let p : 0 < s = omega arith in
@@ -235,7 +272,7 @@ staged-given is (broken h) = refusal
 -- acceptance answers so
 pub accept-given : (kind k L n : ℕ) → Given kind k L n (accept kind k L n)
 accept-given zero k L n = plain-given (plain-ruled k L n)
-accept-given (suc zero) k L n = staged-given (stages-is k) (staged-ruled k L n)
+accept-given (suc zero) k L n = staged-given (stages-is k) (staged-ruled k L n _ _ _ refl refl refl)
 accept-given (suc (suc kind)) k L n = refusal
 
 -- ---- which records are genuine
@@ -243,6 +280,27 @@ accept-given (suc (suc kind)) k L n = refusal
 -- two records are the same if every field is
 pub same-settings : {a b : Settings} → a .kind ≡ b .kind → a .k ≡ b .k → a .top ≡ b .top → a .n ≡ b .n → a .m ≡ b .m → a .s ≡ b .s → a .w ≡ b .w → a ≡ b
 same-settings e₁ e₂ e₃ e₄ e₅ e₆ e₇ i = record { kind = e₁ i; k = e₂ i; top = e₃ i; n = e₄ i; m = e₅ i; s = e₆ i; w = e₇ i }
+
+both-yes : {A B : Type 0} (d : Dec A) (e : Dec B) → A → pick (both? d e) true false ≡ pick e true false
+both-yes (yes a) (yes b) h = refl
+both-yes (yes a) (no b) h = refl
+both-yes (no a) e h = absurd (a h)
+
+-- a record with bits is genuine if it is the same as the one worked out again
+pub genuine-same : (r : Settings) → 0 < r .k → pick (genuine? r) true false ≡ pick (sameSettings? (again r) r) true false
+unfolding genuine?
+genuine-same r h = both-yes (decLt 0 (r .k)) (sameSettings? (again r) r) h
+
+-- what a record's test says of it
+pub genuine-true : (r : Settings) → pick (genuine? r) true false ≡ true → Genuine r
+genuine-true r = pick-elim (λ b. b ≡ true → Genuine r) (genuine? r) true false (λ g e. g) (λ h e. absurd (true≢false (sym e)))
+
+pub genuine-false : (r : Settings) → pick (genuine? r) true false ≡ false → ¬ (Genuine r)
+genuine-false r = pick-elim (λ b. b ≡ false → ¬ (Genuine r)) (genuine? r) true false (λ g e. absurd (true≢false e)) (λ h e. h)
+
+-- no other test of it is made where it has no bits
+pub genuine-none : (r : Settings) → ¬ (0 < r .k) → pick (genuine? r) true false ≡ false
+genuine-none r h = pick-no (genuine? r) true false (λ g. h (g .0))
 
 given-facts : {kind k L n : ℕ} {r : Settings} → Given kind k L n r → 0 < r .k → PlainFacts r ⊎ StagedFacts r
 given-facts refusal h = absurd (not-suc-le-zero h)
@@ -262,6 +320,10 @@ genuine-staged r g h = ⊎-elim (λ f. absurd (h (f .plain))) (λ f. f) (genuine
 
 accept-same : {kind kind′ k k′ L L′ n n′ : ℕ} → kind ≡ kind′ → k ≡ k′ → L ≡ L′ → n ≡ n′ → accept kind k L n ≡ accept kind′ k′ L′ n′
 accept-same e₁ e₂ e₃ e₄ = rw (e₁, e₂, e₃, e₄)
+
+-- and where it has stages
+pub genuine-stages : (r : Settings) → Genuine r → 0 < r .s → StagedFacts r
+genuine-stages r g h = ⊎-elim (λ f. absurd (omega (arith, f .no-stages))) (λ f. f) (genuine-facts r g)
 
 given-genuine : {kind k L n : ℕ} {r : Settings} → Given kind k L n r → r ≡ accept kind k L n → 0 < r .k → Genuine r
 given-genuine refusal e h = absurd (not-suc-le-zero h)
@@ -303,36 +365,51 @@ pub record CommonFacts (r : Settings) : Type 0 where
 pub staged-bits : (r : Settings) → StagedFacts r → (4 ≤ r .k) × (r .k ≤ mostBits)
 staged-bits r f = (rw (sym (f .bits)) (pow-mono (f .stages-least)), rw (sym (f .bits)) (pow-mono (f .stages-most)))
 
--- a genuine record keeps them
-pub genuine-common : (r : Settings) → Genuine r → CommonFacts r
-genuine-common r g = ⊎-elim plain staged (genuine-facts r g)
-  where
-    plain : PlainFacts r → CommonFacts r
-    plain f = record { bits-least = f .bits-least; bits-most = f .bits-most; top-least = f .top-least; top-most = f .top-most; cells-most = f .cells-most; room = f .room; inside = f .inside }
+-- and a width of at most 66
+pub staged-width : (r : Settings) → StagedFacts r → r .w ≤ mostBits + 2
+staged-width r f = omega (arith, f .width, width-below (r .top) (r .k) (f .top-least), staged-bits r f .1)
 
-    staged : StagedFacts r → CommonFacts r
-    staged f =
-        record {
-          bits-least = omega (arith, staged-bits r f .0);
-          bits-most = staged-bits r f .1;
-          top-least = f .top-least;
-          top-most = f .top-most;
-          cells-most = f .cells-most;
-          room = f .room;
-          inside = omega (arith, f .inside);
-        }
+-- kind 0 keeps them
+pub plain-common : (r : Settings) → PlainFacts r → CommonFacts r
+plain-common r f =
+    record {
+      bits-least = f .bits-least;
+      bits-most = f .bits-most;
+      top-least = f .top-least;
+      top-most = f .top-most;
+      cells-most = f .cells-most;
+      room = f .room;
+      inside = f .inside;
+    }
+
+-- and so does kind 1
+pub staged-common : (r : Settings) → StagedFacts r → CommonFacts r
+staged-common r f =
+    record {
+      bits-least = omega (arith, staged-bits r f .0);
+      bits-most = staged-bits r f .1;
+      top-least = f .top-least;
+      top-most = f .top-most;
+      cells-most = f .cells-most;
+      room = f .room;
+      inside = omega (arith, f .inside);
+    }
+
+-- so every genuine record keeps them
+pub genuine-common : (r : Settings) → Genuine r → CommonFacts r
+genuine-common r g = ⊎-elim (plain-common r) (staged-common r) (genuine-facts r g)
 
 -- a block holds at most 64 * 255 levels
-pub block-most : (r : Settings) → Genuine r → r .k * r .top ≤ mostBits * mostTop
-block-most r g = mul-le-mul (genuine-common r g .bits-most) (genuine-common r g .top-most)
+pub block-most : (r : Settings) → CommonFacts r → r .k * r .top ≤ mostBits * mostTop
+block-most r f = mul-le-mul (f .bits-most) (f .top-most)
 
 -- the m blocks have at most 16,384 cells
-pub blocks-most : (r : Settings) → Genuine r → r .m * r .k ≤ mostCells
-blocks-most r g = omega (arith, genuine-common r g .inside, genuine-common r g .cells-most)
+pub blocks-most : (r : Settings) → CommonFacts r → r .m * r .k ≤ mostCells
+blocks-most r f = le-trans (f .inside) (f .cells-most)
 
 -- the m blocks hold at most 16,384 * 255 levels
-pub levels-most : (r : Settings) → Genuine r → r .m * r .k * r .top ≤ mostCells * mostTop
-levels-most r g = mul-le-mul (blocks-most r g) (genuine-common r g .top-most)
+pub levels-most : (r : Settings) → CommonFacts r → r .m * r .k * r .top ≤ mostCells * mostTop
+levels-most r f = mul-le-mul (blocks-most r f) (f .top-most)
 
 -- what the stages may cost is less than the levels of the m blocks
 fits-bits : (j s L : ℕ) → s ≤ j + 1 → 1 ≤ L → 2 * L + s - 1 ≤ (j + 2) * L
@@ -359,14 +436,13 @@ stages-cost-most r f =
     mul-le-mul h g
 
 -- so are the cells and the levels that kind 0's guarantee counts
-pub counted-cells : (r : Settings) → Genuine r → (r .m - r .k + 1) * r .k ≤ mostCells
-counted-cells r g =
-    let f = genuine-common r g in
-    let h : r .m - r .k + 1 ≤ r .m = omega (arith, f .room, f .bits-least) in
-    le-trans (mul-le-mul-right (r .k) h) (blocks-most r g)
+pub counted-cells : (r : Settings) → CommonFacts r → (r .m - r .k + 1) * r .k ≤ mostCells
+counted-cells r f =
+    let h : r .m - r .k + 1 ≤ r .m = omega arith in
+    le-trans (mul-le-mul-right (r .k) h) (blocks-most r f)
 
-pub counted-levels : (r : Settings) → Genuine r → (r .m - r .k + 1) * r .k * r .top ≤ mostCells * mostTop
-counted-levels r g = mul-le-mul (counted-cells r g) (genuine-common r g .top-most)
+pub counted-levels : (r : Settings) → CommonFacts r → (r .m - r .k + 1) * r .k * r .top ≤ mostCells * mostTop
+counted-levels r f = mul-le-mul (counted-cells r f) (f .top-most)
 
 -- ---- the guarantee
 
@@ -392,14 +468,46 @@ guarantee-pos r g =
 pub guarantee-most : (r : Settings) → Genuine r → guarantee r < 2 ^ 22
 guarantee-most r g =
     ⊎-elim
-    (λ f. rw (guarantee-plain r f) (omega (arith, counted-levels r g, f .bits-most)))
-    (λ f. rw (guarantee-staged r f) (omega (arith, levels-most r g)))
+    (λ f. rw (guarantee-plain r f) (omega (arith, counted-levels r (plain-common r f), f .bits-most)))
+    (λ f. rw (guarantee-staged r f) (omega (arith, levels-most r (staged-common r f))))
     (genuine-facts r g)
 
+-- the guarantee reported is that of a genuine record
+pub promised-is : (r : Settings) → Genuine r → promised r ≡ guarantee r
+unfolding promised
+promised-is r g = pick-yes (genuine? r) (guarantee r) 0 g
+
+-- and 0 of any other
+pub promised-none : (r : Settings) → ¬ (Genuine r) → promised r ≡ 0
+unfolding promised
+promised-none r h = pick-no (genuine? r) (guarantee r) 0 h
+
 -- ---- batches
+
+-- where a batch from 1 to s - 1 starts
+pub batch-start-is : (r : Settings) (b : ℕ) → Genuine r → 1 ≤ b → b < r .s → batchStart r b ≡ r .m * r .k + (b - 1) * batchCells (r .s) (r .w)
+unfolding batchStart
+batch-start-is r b g l h = pick-yes (both? (genuine? r) (both? (decLe 1 b) (decLt b (r .s)))) _ 0 (g, (l, h))
+
+-- there is no other
+pub batch-start-none : (r : Settings) (b : ℕ) → (Genuine r → 1 ≤ b → ¬ (b < r .s)) → batchStart r b ≡ 0
+unfolding batchStart
+batch-start-none r b h = pick-no (both? (genuine? r) (both? (decLe 1 b) (decLt b (r .s)))) _ 0 (λ p. h (p .0) (p .1 .0) (p .1 .1))
 
 -- the batches from 1 to s - 1 stand inside the sheet, one after the other
 pub batch-inside : (r : Settings) → StagedFacts r → (b : ℕ) → 1 ≤ b → b < r .s → r .m * r .k + (b - 1) * batchCells (r .s) (r .w) + batchCells (r .s) (r .w) ≤ r .n
 batch-inside r f b l h =
     let g : b - 1 + 1 ≤ r .s - 1 = omega arith in
     omega (arith, f .inside, mul-le-mul-right (batchCells (r .s) (r .w)) g)
+
+-- a batch of accepted settings is small
+pub batch-most : (s w : ℕ) → s ≤ mostStages → w ≤ mostBits + 2 → batchCells s w ≤ 2 * mostBits * (mostBits + 2)
+batch-most s w h g =
+    let p : 2 * (2 ^ s - 1) ≤ 2 * mostBits = omega (arith, pow-mono h) in
+    mul-le-mul p g
+
+-- and so are all of them
+pub index-most : (s w : ℕ) → s ≤ mostStages → w ≤ mostBits + 2 → indexCells s w ≤ mostStages * (2 * mostBits * (mostBits + 2))
+index-most s w h g =
+    let p : s - 1 ≤ mostStages = omega arith in
+    mul-le-mul p (batch-most s w h g)
