@@ -1,7 +1,7 @@
 // Settings: accepted once, carried as one record, and asked for what they come to. Assumes nothing.
 ghost use mathlib.Core.Path.{_≡_};
 ghost use mathlib.Core.Bool.{true, false};
-ghost use Prim.Native.Nat.{_+_, _-_, _*_, _^_, _≤_, _<_};
+ghost use Prim.Native.Nat.{_+_, _-_, _*_, _≤_, _<_};
 ghost use Rattle.rules.specs.Search.{pick};
 ghost use Rattle.rules.specs.Batches.{batchCells, indexCells};
 ghost use Rattle.rules.specs.Accept.{mostBits, mostTop, mostStages, acceptPlain, stagesOf, indexWidth, acceptStaged, accept, Genuine, sameSettings?, genuine?, guarantee, promised, batchStart};
@@ -11,13 +11,16 @@ use crate::Answer;
 use crate::Settings;
 use crate::Setup;
 
-// The limits: bits, the s of 2 ^ s bits, the top level, cells.
+// The most bits.
 const MOST_BITS: usize = 64;
 
+// The s of that many bits.
 const MOST_STAGES: usize = 6;
 
+// The highest top level.
 const MOST_TOP: usize = 255;
 
+// The most cells.
 const MOST_CELLS: usize = 16384;
 
 // The record of zeros.
@@ -43,9 +46,9 @@ impl Settings {
                 settings,
             };
         }
-        let sure = settings.formula();
+        let guarantee = settings.formula();
         Setup {
-            answer: Answer::Done(sure),
+            answer: Answer::Done(guarantee),
             settings,
         }
     }

@@ -1,37 +1,29 @@
+-- The first cell of a batch is worked out without overflow.
 use native.Mathlib.Omega.{arith}
 use Rattle.rules.specs.AcceptLaws.{staged-width, batch-inside}
 use borrow.Author.Needs.{needs}
 use Rattle.rules.proofs.Settings.first_cell.Statement.{statement}
 use Rattle.rules.proofs.Settings.first_cell.Tie as tie
-use Rattle.rules.proofs.Settings.first_cell.Reads as reads
-use Rattle.rules.proofs.Settings.first_cell.Lts as lts
-use Rattle.rules.proofs.acceptance.batch_cells.Reads as batch-cells-reads
 
--- src/acceptance.rt:144:9
 mul-result : tie.Need-mul-result
 mul-result c = search needs
 
--- src/acceptance.rt:144:28
 sub-result : tie.Need-sub-result
 sub-result c = search needs
 
--- src/acceptance.rt:144:41
 batch-cells-requires : tie.Need-batch-cells-requires
 batch-cells-requires c κs = (c .before .pre .0 .stages-most, staged-width _ (c .before .pre .0))
 
--- src/acceptance.rt:144:27
 mul-result-2 : tie.Need-mul-result-2
 mul-result-2 c =
     let b = c .before .before in
     rw (c .batch-cells .ensures) (omega (arith, batch-inside (b .args .self) (b .pre .0) (b .args .batch) (b .pre .1) (b .pre .2)))
 
--- src/acceptance.rt:144:9
 add-result : tie.Need-add-result
 add-result c =
     let b = c .before .before in
     rw (c .batch-cells .ensures) (omega (arith, batch-inside (b .args .self) (b .pre .0) (b .args .batch) (b .pre .1) (b .pre .2)))
 
--- src/acceptance.rt:140:5
 returns : tie.Need-returns
 returns c = rw (c .batch-cells .ensures)
 

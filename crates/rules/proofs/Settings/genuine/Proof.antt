@@ -1,32 +1,24 @@
+-- A record passes exactly if acceptance gives it.
+use mathlib.Core.Path.{sym, ap, _∙_}
 use Rattle.rules.specs.Search.{pick}
 use Rattle.rules.specs.Accept.{sameSettings?}
 use Rattle.rules.specs.declared.Settings.{Settings}
-use mathlib.Core.Bool.{Bool, true, false}
-use mathlib.Core.Path.{ap}
-use mathlib.Core.Path.{sym, _∙_}
+use mathlib.Core.Bool.{true, false}
 use native.Mathlib.Omega.{arith}
 use Rattle.rules.specs.AcceptLaws.{genuine-same, genuine-none}
 use borrow.Author.Needs.{needs}
 use Rattle.rules.proofs.Settings.genuine.Statement.{statement}
 use Rattle.rules.proofs.Settings.genuine.Tie as tie
-use Rattle.rules.proofs.Settings.genuine.Reads as reads
-use Rattle.rules.proofs.Settings.genuine.Lts as lts
-use Rattle.rules.proofs.Settings.work_out.Reads as work-out-reads
-use Rattle.rules.proofs.acceptance.same.Reads as same-reads
 
--- src/acceptance.rt:66:13
 returns : tie.Need-returns
 returns c = sym (genuine-none _ (omega arith))
 
--- src/acceptance.rt:68:13
 work-out-requires : tie.Need-work-out-requires
 work-out-requires c κs = search needs
 
--- src/acceptance.rt:69:9
 same-requires : tie.Need-same-requires
 same-requires c κs = search needs
 
--- src/acceptance.rt:62:5
 returns-2 : tie.Need-returns-2
 returns-2 c =
     let r = c .before .before .before .before .args .self in

@@ -1,43 +1,31 @@
+-- Each refusal breaks a rule of kind 1, and what is left keeps them all.
 use mathlib.Core.Path.{refl, sym}
-use Prim.Native.Nat.{_≤_}
 use native.Mathlib.Omega.{arith}
-use Rattle.rules.specs.AcceptLaws.{stages-bits, width-below, StagedRules, staged-ruled, ruled-kept, ruled-broken}
+use Rattle.rules.specs.AcceptLaws.{stages-bits, width-below, staged-ruled, ruled-kept, ruled-broken}
 use borrow.Author.Needs.{needs}
 use Rattle.rules.proofs.acceptance.accept_staged.Statement.{statement}
 use Rattle.rules.proofs.acceptance.accept_staged.Tie as tie
-use Rattle.rules.proofs.acceptance.accept_staged.Reads as reads
-use Rattle.rules.proofs.acceptance.accept_staged.Lts as lts
-use Rattle.rules.proofs.acceptance.index_cells.Reads as index-cells-reads
-use Rattle.rules.proofs.acceptance.index_width.Reads as index-width-reads
-use Rattle.rules.proofs.acceptance.stages_of.Reads as stages-of-reads
 
--- src/acceptance.rt:202:9
 stages-of-requires : tie.Need-stages-of-requires
 stages-of-requires c κs = search needs
 
--- src/acceptance.rt:204:9
 returns : tie.Need-returns
 returns c = sym (ruled-broken (staged-ruled _ _ _ _ _ _ refl refl refl) (λ a. omega arith))
 
--- src/acceptance.rt:207:9
 returns-2 : tie.Need-returns-2
 returns-2 c = sym (ruled-broken (staged-ruled _ _ _ _ _ _ refl refl refl) (λ a. omega arith))
 
--- src/acceptance.rt:210:9
 returns-3 : tie.Need-returns-3
 returns-3 c = sym (ruled-broken (staged-ruled _ _ _ _ _ _ refl refl refl) (λ a. omega arith))
 
--- src/acceptance.rt:213:9
 returns-4 : tie.Need-returns-4
 returns-4 c = sym (ruled-broken (staged-ruled _ _ _ _ _ _ refl refl refl) (λ a. omega arith))
 
--- src/acceptance.rt:215:9
 index-width-requires : tie.Need-index-width-requires
 index-width-requires c κs =
     let b = c .before .before .before .before in
     (omega arith, omega arith, stages-bits _ _ (b .stages-of .ensures) (omega arith) .2)
 
--- src/acceptance.rt:216:9
 index-cells-requires : tie.Need-index-cells-requires
 index-cells-requires c κs =
     let b = c .before .before .before .before .before in
@@ -45,20 +33,17 @@ index-cells-requires c κs =
     let h = stages-bits _ _ (b .stages-of .ensures) (omega arith) in
     (omega arith, h .0, omega (arith, h .2, width-below (a .top) (a .k) (omega arith), c .index-width .ensures))
 
--- src/acceptance.rt:218:9
 returns-5 : tie.Need-returns-5
 returns-5 c =
     let w = c .before .before in
     let s = w .before .before .before .before .before in
     sym (ruled-broken (staged-ruled _ _ _ _ _ _ (s .stages-of .ensures) (w .index-width .ensures) (c .before .index-cells .ensures)) (λ a. omega arith))
 
--- src/acceptance.rt:220:13
 div-m : tie.Need-div-m
 div-m c =
     let s = c .before .before .before .before .before .before .before in
     omega (arith, stages-bits _ _ (s .stages-of .ensures) (omega arith) .1)
 
--- src/acceptance.rt:222:9
 returns-6 : tie.Need-returns-6
 returns-6 c =
     let b = c .before .before in
@@ -66,7 +51,6 @@ returns-6 c =
     let s = w .before .before .before .before .before in
     sym (ruled-broken (staged-ruled _ _ _ _ _ _ (s .stages-of .ensures) (w .index-width .ensures) (b .index-cells .ensures)) (λ a. omega arith))
 
--- src/acceptance.rt:199:1
 returns-7 : tie.Need-returns-7
 returns-7 c =
     let b = c .before .before in

@@ -1,67 +1,61 @@
-use mathlib.Core.Path.{_≡_, _∙_, sym, ap}
+-- The loop stops at the first width that is enough.
+use mathlib.Core.Path.{_≡_, sym, ap}
 use Prim.Native.Nat.{suc, _+_, _*_, _≤_, _<_, _-_, _^_}
 use native.Mathlib.Nat.{mul-le-mul, mul-le-mul-left, pow-zero, pow-suc}
 use native.Mathlib.Numerals.{add-one}
 use native.Mathlib.Omega.{arith}
 use Rattle.rules.specs.Search.{nowhere}
 use Rattle.rules.specs.SearchLaws.{First, first-none, first-miss}
+use Rattle.rules.specs.Accept.{mostBits, mostTop}
 use Rattle.rules.specs.AcceptLaws.{width-is}
 use borrow.Author.Needs.{needs}
 use Rattle.rules.proofs.acceptance.index_width.Statement.{statement}
 use Rattle.rules.proofs.acceptance.index_width.Tie as tie
-use Rattle.rules.proofs.acceptance.index_width.Reads as reads
-use Rattle.rules.proofs.acceptance.index_width.Lts as lts
 
+-- p is (top + 1) ^ w, above w; w is below k + 2, and no shorter width is enough
 abbrev Inv-loop : tie.InvT-loop
 Inv-loop top k w₀ p₀ w p = (p ≡ suc top ^ w) × (w < p) × (w < k + 2) × First (λ v. k + 2 ≤ suc top ^ v) w nowhere
 
+-- what p lacks falls
 abbrev μ-loop : tie.MeasureT-loop
 μ-loop top k w₀ p₀ w p = k + 2 - p
 
--- in a turn: the product is at least twice p, and small
+-- in a turn the product is at least twice p, and small
 module _ (c : tie.In-loop Inv-loop μ-loop) where
   twice : c .before .loop .p * 2 ≤ c .before .loop .p * (c .before .before .args .top + 1)
   twice = let h : 2 ≤ c .before .before .args .top + 1 = omega arith in mul-le-mul-left (c .before .loop .p) h
 
-  small : c .before .loop .p * (c .before .before .args .top + 1) ≤ 66 * 256
+  small : c .before .loop .p * (c .before .before .args .top + 1) ≤ (mostBits + 2) * (mostTop + 1)
   small =
-      let h : c .before .loop .p ≤ 66 = omega arith in
-      let g : c .before .before .args .top + 1 ≤ 256 = omega arith in
+      let h : c .before .loop .p ≤ mostBits + 2 = omega arith in
+      let g : c .before .before .args .top + 1 ≤ mostTop + 1 = omega arith in
       mul-le-mul h g
 
--- src/acceptance.rt:238:5
 loop-holds : tie.Need-loop-holds Inv-loop μ-loop
 loop-holds c = (sym (pow-zero (suc (c .args .top))), search needs, search needs, first-none)
 
--- src/acceptance.rt:238:15
 add-loop : tie.Need-add-loop Inv-loop μ-loop
 add-loop c = search needs
 
--- src/acceptance.rt:239:18
 add-p : tie.Need-add-p Inv-loop μ-loop
 add-p c = search needs
 
--- src/acceptance.rt:239:13
 mul-p : tie.Need-mul-p Inv-loop μ-loop
 mul-p c = omega (arith, small c)
 
--- src/acceptance.rt:240:9
 add-w : tie.Need-add-w Inv-loop μ-loop
 add-w c = search needs
 
--- src/acceptance.rt:238:5
 loop-less : tie.Need-loop-less Inv-loop μ-loop
 loop-less c = omega (arith, twice c)
 
--- src/acceptance.rt:238:5
 loop-again : tie.Need-loop-again Inv-loop μ-loop
 loop-again c =
     let l = c .before .loop in
     let top = c .before .before .args .top in
-    let e : l .p * (top + 1) ≡ suc top ^ (l .w + 1) = rw (add-one, add-one, pow-suc) (ap (λ z. z * suc top) (l .inv .0)) in
+    let e : l .p * (top + 1) ≡ suc top ^ (l .w + 1) = rw (add-one top, add-one (l .w), pow-suc) (ap (λ z. z * suc top) (l .inv .0)) in
     (e, omega (arith, twice c), omega arith, first-miss (l .inv .3) (λ h. omega arith))
 
--- src/acceptance.rt:232:1
 returns : tie.Need-returns Inv-loop μ-loop
 returns c =
     let l = c .before .loop in

@@ -1,3 +1,4 @@
+-- Each difference is one of the records, and there is no other.
 use mathlib.Core.Path.{sym, ap}
 use mathlib.Core.Bool.{true, false}
 use Rattle.rules.specs.SearchLaws.{pick-yes, pick-no}
@@ -6,38 +7,28 @@ use Rattle.rules.specs.AcceptLaws.{same-settings}
 use Rattle.rules.specs.declared.Settings.{Settings}
 use Rattle.rules.proofs.acceptance.same.Statement.{statement}
 use Rattle.rules.proofs.acceptance.same.Tie as tie
-use Rattle.rules.proofs.acceptance.same.Reads as reads
-use Rattle.rules.proofs.acceptance.same.Lts as lts
 
--- src/acceptance.rt:153:9
 returns : tie.Need-returns
 returns c = sym (pick-no (sameSettings? _ _) true false (λ e. c .if1 .taken (ap (λ (r : Settings). r .kind) e)))
 
--- src/acceptance.rt:156:9
 returns-2 : tie.Need-returns-2
 returns-2 c = sym (pick-no (sameSettings? _ _) true false (λ e. c .if2 .taken (ap (λ (r : Settings). r .k) e)))
 
--- src/acceptance.rt:159:9
 returns-3 : tie.Need-returns-3
 returns-3 c = sym (pick-no (sameSettings? _ _) true false (λ e. c .if3 .taken (ap (λ (r : Settings). r .top) e)))
 
--- src/acceptance.rt:162:9
 returns-4 : tie.Need-returns-4
 returns-4 c = sym (pick-no (sameSettings? _ _) true false (λ e. c .if4 .taken (ap (λ (r : Settings). r .n) e)))
 
--- src/acceptance.rt:165:9
 returns-5 : tie.Need-returns-5
 returns-5 c = sym (pick-no (sameSettings? _ _) true false (λ e. c .if5 .taken (ap (λ (r : Settings). r .m) e)))
 
--- src/acceptance.rt:168:9
 returns-6 : tie.Need-returns-6
 returns-6 c = sym (pick-no (sameSettings? _ _) true false (λ e. c .if6 .taken (ap (λ (r : Settings). r .s) e)))
 
--- src/acceptance.rt:171:9
 returns-7 : tie.Need-returns-7
 returns-7 c = sym (pick-no (sameSettings? _ _) true false (λ e. c .if7 .taken (ap (λ (r : Settings). r .w) e)))
 
--- src/acceptance.rt:149:1
 returns-8 : tie.Need-returns-8
 returns-8 c =
     let c₆ = c .before .before .before in
