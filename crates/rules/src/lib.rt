@@ -2,6 +2,8 @@
 ghost use mathlib.Core.Path.{_≡_};
 ghost use Rattle.rules.specs.Answer.{numberOf, valueOf};
 
+mod acceptance;
+
 // Settings as acceptance gives them: what was asked for, and m blocks, s stages and index width w worked out.
 pub struct Settings {
     pub kind: usize,
