@@ -1,3 +1,4 @@
 -- What the functions on one block and on runs of cells answer, and the laws of it.
 pub mod Meaning
 pub mod Laws
+pub mod StateLaws

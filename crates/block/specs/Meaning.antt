@@ -1,12 +1,20 @@
 -- What the answers on one block and on runs of cells mean, as definitions of the rules. Assumes nothing.
 use mathlib.Core.List.{List, [], _∷_}
 use Prim.Native.Nat.{ℕ, max}
-use Rattle.rules.specs.Search.{Found, at, nowhere}
+use native.Mathlib.Decide.{decLt}
+use lib.ListN.{length, getD}
+use Rattle.laws.specs.Rise.{cellBefore}
+use Rattle.rules.specs.Block.{State, empty, full, broken, active}
+use Rattle.rules.specs.Search.{Found, at, nowhere, first}
 use Rattle.rules.specs.declared.Answer.the-variants.{BadLevel}
 use Rattle.rules.specs.declared.Check.{Check}
 use Rattle.rules.specs.declared.Check.the-variants.{Pass, Refuse}
 use Rattle.block.specs.declared.Level.{Level}
 use Rattle.block.specs.declared.Level.the-variants.{Fine, Above}
+use Rattle.block.specs.declared.BlockState.{BlockState}
+use Rattle.block.specs.declared.BlockState.the-variants.{Empty, Full, Active, Broken}
+use Rattle.block.specs.declared.Start.{Start}
+use Rattle.block.specs.declared.Start.the-variants.{At, Nowhere}
 
 -- the greatest level, 0 where there is no cell
 unfoldable pub greatestOf : List ℕ → ℕ
@@ -22,3 +30,19 @@ asFound (Above c) = at c
 abbrev pub checkOf : Level → Check
 checkOf Fine = Pass
 checkOf (Above c) = Refuse (BadLevel c)
+
+-- the place that a look for a start found
+abbrev pub asPlace : Start → Found
+asPlace (At c) = at c
+asPlace Nowhere = nowhere
+
+-- the first cell that is higher than the one before it; before cell 0 comes the last
+unfoldable pub startOf : List ℕ → Found
+startOf b = first (λ c. decLt (getD b (cellBefore (length b) c) 0) (getD b c 0)) (length b)
+
+-- the state that a look at a block found
+abbrev pub asState : BlockState → State
+asState Empty = empty
+asState Full = full
+asState (Active bit v) = active bit v
+asState Broken = broken

@@ -2,17 +2,31 @@
 ghost use mathlib.Core.Bool.{true, false};
 ghost use mathlib.Core.List.{_++_};
 ghost use mathlib.Core.Path.{_≡_};
-ghost use Prim.Native.Nat.{_+_, _*_, _≤_, _<_};
+ghost use Prim.Native.Nat.{_+_, _*_, _≤_, _<_, min};
 ghost use lib.ListN.{length, take, drop, replicate};
 ghost use Rattle.rules.specs.Search.{pick};
-ghost use Rattle.rules.specs.Cells.{sum, firstAbove, same?, block, store};
-ghost use Rattle.rules.specs.Block.{cycle};
-ghost use Rattle.block.specs.Meaning.{greatestOf, asFound};
+ghost use Rattle.rules.specs.Cells.{sum, Low, firstAbove, same?, block, store};
+ghost use Rattle.rules.specs.Block.{ramp, cycle, stateOf};
+ghost use Rattle.block.specs.Meaning.{greatestOf, asFound, asPlace, startOf, asState};
 
 // What a look at the levels finds: none above the top level, or the first cell that is.
 pub enum Level {
     Fine,
     Above(usize),
+}
+
+// A block's state; an active block has its bit and its weight.
+pub enum BlockState {
+    Empty,
+    Full,
+    Active(usize, usize),
+    Broken,
+}
+
+// Where a block's cycle may start.
+enum Start {
+    At(usize),
+    Nowhere,
 }
 
 // The sum of the levels.
@@ -67,6 +81,83 @@ pub fn all_zero(s: &[u8]) -> bool
     ensures { λ r. ⌜ r ≡ pick (same? (now (s .entry)) (replicate (length (now (s .entry))) 0)) true false ⌝ }
 {
     greatest(s) == 0
+}
+
+// The first cell that is higher than the one before it; before cell 0 comes the last.
+fn start_of(b: &[u8]) -> Start
+    requires { ⌜ 1 ≤ length (now b) ⌝ }
+    ensures { λ r. ⌜ asPlace r ≡ startOf (now (b .entry)) ⌝ }
+{
+    let mut before = b[b.len() - 1];
+    let mut i: usize = 0;
+    while i < b.len() {
+        let x = b[i];
+        if before < x {
+            return Start::At(i);
+        }
+        before = x;
+        i += 1;
+    }
+    Start::Nowhere
+}
+
+// The lesser of two numbers.
+fn lesser(a: usize, b: usize) -> usize
+    ensures { λ r. ⌜ r ≡ min a b ⌝ }
+{
+    if a < b { a } else { b }
+}
+
+// Whether the cells are raised in turn, each from 0 to the top level before the next, by v levels in all.
+fn on_ramp(s: &[u8], top: u8, v: usize) -> bool
+    ensures { λ r. ⌜ r ≡ pick (same? (now (s .entry)) (ramp top v (length (now (s .entry))))) true false ⌝ }
+{
+    let mut left = v;
+    let mut i: usize = 0;
+    while i < s.len() {
+        let level = lesser(top as usize, left);
+        if s[i] as usize != level {
+            return false;
+        }
+        left -= level;
+        i += 1;
+    }
+    true
+}
+
+// Whether the block is the step of weight v on the cycle from this start: cells from the start on, and then the cells before it.
+fn on_cycle(b: &[u8], top: u8, start: usize, v: usize) -> bool
+    requires { ⌜ (length (now b) ≤ 65536) × (start < length (now b)) ⌝ }
+    ensures { λ r. ⌜ r ≡ pick (same? (now (b .entry)) (cycle (length (now (b .entry))) top start v)) true false ⌝ }
+{
+    if !on_ramp(&b[start..], top, v) {
+        return false;
+    }
+    let held = lesser(v, (b.len() - start) * top as usize);
+    on_ramp(&b[..start], top, v - held)
+}
+
+// The state of a block whose levels are at most the top level.
+pub fn state_of(b: &[u8], top: u8) -> BlockState
+    requires { ⌜ (2 ≤ length (now b)) × (length (now b) ≤ 65536) × (1 ≤ top) ⌝ }
+    requires { ⌜ Low top (now b) ⌝ }
+    ensures { λ r. ⌜ asState r ≡ stateOf (length (now (b .entry))) top (now (b .entry)) ⌝ }
+{
+    let v = sum_of(b);
+    if v == 0 {
+        return BlockState::Empty;
+    }
+    if v == b.len() * top as usize {
+        return BlockState::Full;
+    }
+    let Start::At(bit) = start_of(b) else {
+        return BlockState::Broken;
+    };
+    if on_cycle(b, top, bit, v) {
+        BlockState::Active(bit, v)
+    } else {
+        BlockState::Broken
+    }
 }
 
 // The next step of a block on the cycle of a bit, in a part of the sheet that begins with the block: one cell is raised.

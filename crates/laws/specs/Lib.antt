@@ -3,6 +3,7 @@ pub mod Lists
 pub mod Distinct
 pub mod Cut
 pub mod Block
+pub mod Rise
 pub mod Step
 pub mod Chop
 pub mod Stage
