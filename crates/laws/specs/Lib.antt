@@ -7,3 +7,4 @@ pub mod Step
 pub mod Chop
 pub mod Stage
 pub mod Index
+pub mod Live
