@@ -8,3 +8,4 @@ pub mod Step
 pub mod Chop
 pub mod Stage
 pub mod Index
+pub mod Live

@@ -11,6 +11,7 @@ use native.Mathlib.Omega.{arith}
 use lib.ListN.{drop, length, length-drop, take}
 use lib.Seq.{drop-drop, length-take-le, take-add}
 use Rattle.laws.specs.Lists.{low-drop, low-take, sum-append, sum-replicate}
+use Rattle.laws.specs.Live.{chop-snoc, live, live-append, live-full, live-le, live-more, live-none}
 use Rattle.lifetime.specs.Plain.{Planned, Proper, activeBits, bits-few, noteBit, out}
 use Rattle.lifetime.specs.PlainSheet.{Accepted, block-cells}
 use Rattle.rules.specs.Block.{State, active, broken, cellsOf, empty, full}
@@ -25,29 +26,6 @@ use Rattle.rules.specs.Stage.{liveWeights}
 low-sum : (L : ℕ) (xs : List ℕ) → Low L xs → sum xs ≤ length xs * L
 low-sum L [] h = zero-le
 low-sum L (x ∷ xs) h = omega (arith, h .0, low-sum L xs (h .1))
-
-live : ℕ → List (List ℕ) → ℕ
-live W bs = length (liveWeights W bs)
-
-live-none : (W : ℕ) → live W [] ≡ 0
-unfolding live
-live-none W = refl
-
--- a full block counts 0, any other 1
-live-full : (W : ℕ) (b : List ℕ) (bs : List (List ℕ)) → sum b ≡ W → live W (b ∷ bs) ≡ live W bs
-unfolding live
-live-full W b bs e = ap length (pick-yes (ℕ-discrete (sum b) W) (liveWeights W bs) (sum b ∷ liveWeights W bs) e)
-
-live-more : (W : ℕ) (b : List ℕ) (bs : List (List ℕ)) → sum b ≢ W → live W (b ∷ bs) ≡ suc (live W bs)
-unfolding live
-live-more W b bs e = ap length (pick-no (ℕ-discrete (sum b) W) (liveWeights W bs) (sum b ∷ liveWeights W bs) e)
-
-live-le : (W : ℕ) (b : List ℕ) (bs : List (List ℕ)) → live W (b ∷ bs) ≤ suc (live W bs)
-live-le W b bs = go (ℕ-discrete (sum b) W)
-  where
-    go : Dec (sum b ≡ W) → live W (b ∷ bs) ≤ suc (live W bs)
-    go (yes e) = omega (arith, live-full W b bs e)
-    go (no e) = omega (arith, live-more W b bs e)
 
 -- two halves for one block
 pair : (W : ℕ) (a b c : List ℕ) (ds cs : List (List ℕ)) → sum c ≡ sum a + sum b → sum a ≤ W → sum b ≤ W → live W ds ≤ 2 * live (W + W) cs
@@ -83,37 +61,6 @@ pub halves-weights : (w L n : ℕ) (xs : List ℕ) → Low L xs → n * (w + w) 
     → length (liveWeights (w * L) (chop w (twice n) xs)) ≤ 2 * length (liveWeights (w * L + w * L) (chop (w + w) n xs))
 unfolding live
 halves-weights = halves
-
--- ---- one block more at the end
-
-chop-snoc : (w n : ℕ) (xs : List ℕ) → chop w (suc n) xs ≡ chop w n xs ++ (block w xs n ∷ [])
-unfolding block
-chop-snoc w zero xs = ap (λ (x : ℕ). take w (drop x xs) ∷ []) (sym (zero-mul w))
-chop-snoc w (suc n) xs =
-    let e : w + n * w ≡ suc n * w = omega arith in
-    ap {B = List (List ℕ)} (λ r. take w xs ∷ r)
-    (chop-snoc w n (drop w xs) ∙ ap (λ (b : List ℕ). chop w n (drop w xs) ++ (take w b ∷ [])) (drop-drop (n * w) w xs ∙ ap (λ (x : ℕ). drop x xs) e))
-
-live-append : (W : ℕ) (ds bs : List (List ℕ)) → live W (ds ++ bs) ≡ live W ds + live W bs
-live-append W [] bs = omega (arith, live-none W)
-live-append W (d ∷ ds) bs = go (ℕ-discrete (sum d) W) (live-append W ds bs)
-  where
-    go : Dec (sum d ≡ W) → live W (ds ++ bs) ≡ live W ds + live W bs → live W (d ∷ (ds ++ bs)) ≡ live W (d ∷ ds) + live W bs
-    go (yes e) r = omega (arith, live-full W d (ds ++ bs) e, live-full W d ds e)
-    go (no e) r = omega (arith, live-more W d (ds ++ bs) e, live-more W d ds e)
-
--- what a loop over the blocks counts
-pub count-full : (W w j : ℕ) (xs : List ℕ) → sum (block w xs j) ≡ W → length (liveWeights W (chop w (j + 1) xs)) ≡ length (liveWeights W (chop w j xs))
-unfolding live
-count-full W w j xs e =
-    ap (λ (n : ℕ). live W (chop w n xs)) (add-one j) ∙ ap (live W) (chop-snoc w j xs)
-    ∙ omega (arith, live-append W (chop w j xs) (block w xs j ∷ []), live-full W (block w xs j) [] e, live-none W)
-
-pub count-more : (W w j : ℕ) (xs : List ℕ) → sum (block w xs j) ≢ W → length (liveWeights W (chop w (j + 1) xs)) ≡ length (liveWeights W (chop w j xs)) + 1
-unfolding live
-count-more W w j xs e =
-    ap (λ (n : ℕ). live W (chop w n xs)) (add-one j) ∙ ap (live W) (chop-snoc w j xs)
-    ∙ omega (arith, live-append W (chop w j xs) (block w xs j ∷ []), live-more W (block w xs j) [] e, live-none W)
 
 -- ---- after a plain Erase
 

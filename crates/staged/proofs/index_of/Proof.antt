@@ -1,0 +1,133 @@
+-- `staged::index_of` meets its contract: the number is that of the digits passed. Assumes nothing.
+use mathlib.Core.Path.{_≡_, _∙_, ap, sym}
+use native.Mathlib.Nat.{pow-zero}
+use Prim.Native.Nat.{suc, _+_, _*_, _^_, _≤_, _<_, _-_}
+use native.Mathlib.Omega.{arith}
+use borrow.Author.Needs.{needs}
+use lib.ListN.{length, getD, take}
+use lib.Seq.{take-all}
+use Rattle.rules.specs.Batches.{number}
+use Rattle.rules.specs.Stage.{index}
+use Rattle.staged.specs.Laws.{entry-full, entry-number, number-lt, number-none, number-take, power-le, power-one}
+use Rattle.staged.proofs.index_of.Statement.{statement}
+use Rattle.staged.proofs.index_of.Tie as tie
+use Rattle.staged.proofs.index_of.Reads as reads
+use Rattle.staged.proofs.index_of.Lts as lts
+
+abbrev Inv-loop : tie.InvT-loop
+Inv-loop b top base number₀ power₀ i₀ count power i = (i ≤ length b) × (count ≡ number (suc top) (take i b)) × (power ≡ suc top ^ i)
+
+abbrev μ-loop : tie.MeasureT-loop
+μ-loop b top base number₀ power₀ i₀ count power i = length b - i
+
+-- in a turn: the number with one more digit, that it fits, and the base to one more digit
+module _ (c : tie.In-loop Inv-loop μ-loop) where
+  more : number (suc (c .before .before .args .top)) (take (c .before .loop .i + 1) (c .before .before .args .b .now)) ≡ c .before .loop .number * suc (c .before .before .args .top) + getD (c .before .before .args .b .now) (c .before .loop .i) 0
+  more =
+      let a = c .before .before .args in
+      let l = c .before .loop in
+      number-take (suc (a .top)) (a .b .now) (l .i) (c .loop-test .taken) ∙ ap (λ n. n * suc (a .top) + getD (a .b .now) (l .i) 0) (sym (l .inv .1))
+
+  less : number (suc (c .before .before .args .top)) (take (c .before .loop .i + 1) (c .before .before .args .b .now)) < suc (c .before .before .args .top) ^ (c .before .loop .i + 1)
+  less = number-lt (c .before .before .args .top) (c .before .before .args .b .now) (c .before .loop .i + 1) (c .before .before .pre .1) (omega arith)
+
+  power : suc (c .before .before .args .top) ^ (c .before .loop .i + 1) ≡ c .before .loop .power * suc (c .before .before .args .top)
+  power =
+      let a = c .before .before .args in
+      power-one (suc (a .top)) (c .before .loop .i) ∙ ap (λ n. n * suc (a .top)) (sym (c .before .loop .inv .2))
+
+  small : suc (c .before .before .args .top) ^ (c .before .loop .i + 1) ≤ 16777216
+  small =
+      let a = c .before .before .args in
+      omega (arith, power-le (a .top) (c .before .loop .i + 1) (length (a .b .now)) (omega arith))
+
+-- src/lib.rt:20:16
+add-base : tie.Need-add-base Inv-loop μ-loop
+add-base c = search needs
+
+-- src/lib.rt:24:5
+loop-holds : tie.Need-loop-holds Inv-loop μ-loop
+loop-holds c =
+    let z : suc (c .args .top) ^ 0 ≡ 1 = pow-zero (suc (c .args .top)) in
+    (omega arith, number-none (suc (c .args .top)), sym z)
+
+-- src/lib.rt:25:18
+mul-number : tie.Need-mul-number Inv-loop μ-loop
+mul-number c = omega (arith, more c, less c, small c)
+
+-- src/lib.rt:25:34
+shared-slice-read-number : tie.Need-shared-slice-read-number Inv-loop μ-loop
+shared-slice-read-number c = search needs
+
+-- src/lib.rt:25:34
+cast-number : tie.Need-cast-number Inv-loop μ-loop
+cast-number c = omega (arith, c .shared-slice-known .given (c .before .before .loop .i))
+
+-- src/lib.rt:25:18
+add-number : tie.Need-add-number Inv-loop μ-loop
+add-number c = omega (arith, more (c .before), less (c .before), small (c .before))
+
+-- src/lib.rt:26:9
+mul-power : tie.Need-mul-power Inv-loop μ-loop
+mul-power c = omega (arith, power (c .before), small (c .before))
+
+-- src/lib.rt:27:9
+add-i : tie.Need-add-i Inv-loop μ-loop
+add-i c = search needs
+
+-- src/lib.rt:24:5
+loop-less : tie.Need-loop-less Inv-loop μ-loop
+loop-less c = search needs
+
+-- src/lib.rt:24:5
+loop-again : tie.Need-loop-again Inv-loop μ-loop
+loop-again c = (omega arith, omega (arith, more (c .before)), omega (arith, power (c .before)))
+
+-- src/lib.rt:29:8
+add-if1 : tie.Need-add-if1 Inv-loop μ-loop
+add-if1 c =
+    let a = c .before .before .args in
+    let l = c .before .loop in
+    omega (arith, number-lt (a .top) (a .b .now) (l .i) (c .before .before .pre .1) (omega arith), power-le (a .top) (l .i) (length (a .b .now)) (omega arith))
+
+-- past the loop: the number of all digits, and the base to all digits
+whole : (c : tie.After-loop Inv-loop μ-loop)
+    → (c .before .loop .number ≡ number (suc (c .before .before .args .top)) (c .before .before .args .b .now))
+    × (c .before .loop .power ≡ suc (c .before .before .args .top) ^ length (c .before .before .args .b .now))
+whole c =
+    let a = c .before .before .args in
+    let l = c .before .loop in
+    let e : l .i ≡ length (a .b .now) = omega arith in
+    (l .inv .1 ∙ simp (take-all (l .i) (a .b .now) (c .loop-test .left)), rw e at (l .inv .2))
+
+-- src/lib.rt:30:9
+returns : tie.Need-returns Inv-loop μ-loop
+returns c =
+    let a = c .before .before .before .args in
+    sym (entry-full (a .top) (a .b .now) (c .before .before .before .pre .1) (omega (arith, whole (c .before))))
+
+-- src/lib.rt:16:1
+returns-2 : tie.Need-returns-2 Inv-loop μ-loop
+returns-2 c =
+    let a = c .before .before .before .args in
+    ap index (whole (c .before) .0) ∙ sym (entry-number (a .top) (a .b .now) (λ e. c .if1 .left (omega (arith, whole (c .before)))))
+
+pub index-of-spec : {M : Type 1} → statement M
+index-of-spec =
+    tie.close
+    (tie.spec
+    Inv-loop
+    μ-loop
+    add-base
+    loop-holds
+    mul-number
+    shared-slice-read-number
+    cast-number
+    add-number
+    mul-power
+    add-i
+    loop-less
+    loop-again
+    add-if1
+    returns
+    returns-2)

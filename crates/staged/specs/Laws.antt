@@ -1,0 +1,122 @@
+-- Laws of the digits of an index block as a loop meets them, and of cells filled one by one. Assumes nothing.
+use mathlib.Core.List.{List, [], _++_, _∷_, append-assoc, append-nil}
+use mathlib.Core.Path.{_∙_, _≡_, ap, refl, subst, sym}
+use Prim.Native.Nat.{_%_, _*_, _+_, _-_, _/_, _<_, _^_, _≤_, suc, zero, ℕ}
+use native.Mathlib.Nat.{div-add-mod', div-lt-iff-lt-mul, le-of-suc-le-suc, mod-lt, not-suc-le-zero, pow-le-pow-right, pow-suc, pow-zero}
+use native.Mathlib.Numerals.{add-one}
+use native.Mathlib.Omega.{arith}
+use lib.ListN.{drop, getD, length, length-append, length-replicate, replicate, replicate-append-replicate, set, take}
+use lib.Seq.{drop-length, length-take-le, take-suc, take-suc-set}
+use Rattle.laws.specs.Index.{digits-low, digits-num, length-digits, num-digits, num-full, num-lt}
+use Rattle.laws.specs.Lists.{low-append, low-replicate, low-take}
+use Rattle.rules.specs.Batches.{digits, entryOf, number}
+use Rattle.rules.specs.Cells.{Low, same?}
+use Rattle.rules.specs.SearchLaws.{pick-no, pick-yes}
+use Rattle.rules.specs.Stage.{closed, index}
+
+-- ---- the number of an index block
+
+-- one digit more at the end
+number-snoc : (q : ℕ) (b : List ℕ) (x : ℕ) → number q (b ++ (x ∷ [])) ≡ number q b * q + x
+unfolding number
+number-snoc q [] x = omega (arith, ap (λ (p : ℕ). x * p) (pow-zero q))
+number-snoc q (y ∷ b) x =
+    let e : length (b ++ (x ∷ [])) ≡ suc (length b) = omega (arith, length-append b (x ∷ [])) in
+    omega (arith, number-snoc q b x, ap (λ (n : ℕ). y * q ^ n) e, ap (λ (p : ℕ). y * p) (pow-suc q (length b)))
+
+-- no digit is the number 0
+pub number-none : (q : ℕ) → 0 ≡ number q []
+unfolding number
+number-none q = refl
+
+-- what a loop adds: one more digit
+pub number-take : (q : ℕ) (b : List ℕ) (i : ℕ) → i < length b → number q (take (i + 1) b) ≡ number q (take i b) * q + getD b i 0
+number-take q b i h =
+    ap (λ (n : ℕ). number q (take n b)) (add-one i)
+    ∙ ap (number q) (take-suc b i 0 h)
+    ∙ number-snoc q (take i b) (getD b i 0)
+
+-- the number of the first i digits is less than the base to the i
+pub number-lt : (L : ℕ) (b : List ℕ) (i : ℕ) → Low L b → i ≤ length b → number (suc L) (take i b) < suc L ^ i
+number-lt L b i l h =
+    subst (λ (n : ℕ). number (suc L) (take i b) < suc L ^ n) (length-take-le i b h) (num-lt L (take i b) (low-take L i b l))
+
+-- the base to one digit more, and to fewer digits
+pub power-one : (q i : ℕ) → q ^ (i + 1) ≡ q ^ i * q
+power-one q i = ap (λ (n : ℕ). q ^ n) (add-one i) ∙ pow-suc q i
+
+pub power-le : (L i n : ℕ) → i ≤ n → suc L ^ i ≤ suc L ^ n
+power-le L i n h = pow-le-pow-right (omega arith) h
+
+-- the digits of the greatest number are all L
+most-full : (L : ℕ) (b : List ℕ) → Low L b → suc (number (suc L) b) ≡ suc L ^ length b → b ≡ replicate (length b) L
+most-full L b l e =
+    let r : List ℕ = replicate (length b) L in
+    let n : number (suc L) b ≡ number (suc L) r = omega (arith, num-full L (length b)) in
+    sym (digits-num L b l)
+    ∙ ap (digits (suc L) (length b)) n
+    ∙ ap (λ (w : ℕ). digits (suc L) w (number (suc L) r)) (sym (length-replicate (length b) L))
+    ∙ digits-num L r (low-replicate L (length b) L (omega arith))
+
+-- an index block is full exactly if its number is the greatest of its width
+pub entry-full : (L : ℕ) (b : List ℕ) → Low L b → number (suc L) b + 1 ≡ suc L ^ length b → entryOf L (length b) b ≡ closed
+unfolding entryOf
+entry-full L b l e = pick-yes (same? b (replicate (length b) L)) _ _ (most-full L b l (omega arith))
+
+pub entry-number : (L : ℕ) (b : List ℕ) → ¬ (number (suc L) b + 1 ≡ suc L ^ length b) → entryOf L (length b) b ≡ index (number (suc L) b)
+unfolding entryOf
+entry-number L b h =
+    pick-no (same? b (replicate (length b) L)) _ _
+    (λ e. let z : number (suc L) b ≡ number (suc L) (replicate (length b) L) = ap (number (suc L)) e in h (omega (arith, num-full L (length b))))
+
+-- ---- the digits of a number
+
+-- what is left without the last digit
+pub rest-lt : (L w u : ℕ) → u < suc L ^ suc w → u / suc L < suc L ^ w
+rest-lt L w u h = div-lt-iff-lt-mul {k = suc L} {x = u} {y = suc L ^ w} (omega arith) .1 (subst (λ (x : ℕ). u < x) (pow-suc (suc L) w) h)
+
+-- the last digit apart
+digits-snoc : (L w u : ℕ) → u < suc L ^ suc w → digits (suc L) (suc w) u ≡ digits (suc L) w (u / suc L) ++ (u % suc L ∷ [])
+digits-snoc L w u h =
+    let b : List ℕ = digits (suc L) w (u / suc L) in
+    let q : u / suc L < suc L ^ w = rest-lt L w u h in
+    let r : u % suc L < suc L = mod-lt u (omega arith) in
+    let n : number (suc L) (b ++ (u % suc L ∷ [])) ≡ u =
+    number-snoc (suc L) b (u % suc L)
+    ∙ ap (λ (x : ℕ). x * suc L + u % suc L) (num-digits (suc L) w (u / suc L) (omega arith) q)
+    ∙ div-add-mod' u (suc L) in
+    let e : length (b ++ (u % suc L ∷ [])) ≡ suc w = omega (arith, length-append b (u % suc L ∷ []), length-digits (suc L) w (u / suc L)) in
+    sym (ap (digits (suc L) (suc w)) n)
+    ∙ ap (λ (x : ℕ). digits (suc L) x (number (suc L) (b ++ (u % suc L ∷ [])))) (sym e)
+    ∙ digits-num L (b ++ (u % suc L ∷ [])) (low-append L b (u % suc L ∷ []) (digits-low L w (u / suc L) q) (le-of-suc-le-suc r, tt))
+
+-- cell j set, and the cells past it
+drop-set : (b : List ℕ) (j v : ℕ) → j < length b → drop j (set b j v) ≡ v ∷ drop (suc j) b
+drop-set [] j v h = absurd (not-suc-le-zero h)
+drop-set (x ∷ b) zero v h = refl
+drop-set (x ∷ b) (suc j) v h = drop-set b j v (le-of-suc-le-suc h)
+
+-- what a loop from the last digit writes: digit j of the j + 1 that are left
+pub digits-turn : (L j u : ℕ) (b : List ℕ) → j < length b → u < suc L ^ suc j
+    → digits (suc L) (suc j) u ++ drop (suc j) b ≡ digits (suc L) j (u / suc L) ++ drop j (set b j (u % suc L))
+digits-turn L j u b h l =
+    ap (λ (r : List ℕ). r ++ drop (suc j) b) (digits-snoc L j u l)
+    ∙ append-assoc (digits (suc L) j (u / suc L)) (u % suc L ∷ []) (drop (suc j) b)
+    ∙ ap (λ (r : List ℕ). digits (suc L) j (u / suc L) ++ r) (sym (drop-set b j (u % suc L) h))
+
+-- no digit is left to write at first, and none in the end
+pub digits-first : (q u : ℕ) (b : List ℕ) → digits q (length b) u ≡ digits q (length b) u ++ drop (length b) b
+digits-first q u b = sym (ap (λ (r : List ℕ). digits q (length b) u ++ r) (drop-length b) ∙ append-nil (digits q (length b) u))
+
+pub digits-last : (q u : ℕ) (b : List ℕ) → digits q 0 u ++ drop 0 b ≡ b
+unfolding digits
+digits-last q u b = refl
+
+-- ---- cells filled one by one
+
+pub fill-turn : (b : List ℕ) (i v : ℕ) → i < length b → take i b ≡ replicate i v → take (i + 1) (set b i v) ≡ replicate (i + 1) v
+fill-turn b i v h e =
+    ap (λ (n : ℕ). take n (set b i v)) (add-one i)
+    ∙ take-suc-set b i v h
+    ∙ ap (λ (r : List ℕ). r ++ (v ∷ [])) e
+    ∙ replicate-append-replicate i 1 v

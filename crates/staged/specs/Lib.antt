@@ -1,0 +1,3 @@
+-- What the leaves of a staged sheet answer, and the laws of it.
+pub mod Meaning
+pub mod Laws

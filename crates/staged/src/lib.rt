@@ -1,0 +1,59 @@
+// The leaves of a staged sheet: index blocks, the stage, parity blocks and the search for a later stage. Assumes nothing.
+ghost use mathlib.Core.Path.{_≡_};
+ghost use Prim.Native.Nat.{suc, _+_, _-_, _*_, _^_, _≤_, _<_};
+ghost use lib.ListN.{length, replicate};
+ghost use Rattle.rules.specs.Cells.{Low};
+ghost use Rattle.rules.specs.Batches.{digits, entryOf};
+ghost use Rattle.staged.specs.Meaning.{asEntry};
+
+// What an index block says: its number, or that it is full.
+pub enum Index {
+    Number(usize),
+    Full,
+}
+
+// What the cells of an index block say, most significant digit first; a full one has the greatest number of its width.
+pub fn index_of(b: &[u8], top: u8) -> Index
+    requires { ⌜ (suc top ^ length (now b) ≤ 16777216) × Low top (now b) ⌝ }
+    ensures { λ r. ⌜ asEntry r ≡ entryOf top (length (now (b .entry))) (now (b .entry)) ⌝ }
+{
+    let base = top as usize + 1;
+    let mut number: usize = 0;
+    let mut power: usize = 1;
+    let mut i: usize = 0;
+    while i < b.len() {
+        number = number * base + b[i] as usize;
+        power *= base;
+        i += 1;
+    }
+    if number + 1 == power {
+        return Index::Full;
+    }
+    Index::Number(number)
+}
+
+// An index block set to the digits of u, the last digit first.
+pub fn set_index(b: &mut [u8], top: u8, u: usize)
+    requires { ⌜ u < suc top ^ length (now b) ⌝ }
+    ensures { λ _. ⌜ now (b .exit) ≡ digits (suc top) (length (now (b .entry))) u ⌝ }
+{
+    let base = top as usize + 1;
+    let mut rest = u;
+    let mut i = b.len();
+    while 0 < i {
+        i -= 1;
+        b[i] = (rest % base) as u8;
+        rest /= base;
+    }
+}
+
+// Every cell set to one level.
+pub fn fill(b: &mut [u8], level: u8)
+    ensures { λ _. ⌜ now (b .exit) ≡ replicate (length (now (b .entry))) level ⌝ }
+{
+    let mut i: usize = 0;
+    while i < b.len() {
+        b[i] = level;
+        i += 1;
+    }
+}
