@@ -31,7 +31,7 @@ abbrev pub checkOf : Level → Check
 checkOf Fine = Pass
 checkOf (Above c) = Refuse (BadLevel c)
 
--- the place that a look for a start found
+-- the place that the look for a start found
 abbrev pub asPlace : Start → Found
 asPlace (At c) = at c
 asPlace Nowhere = nowhere
