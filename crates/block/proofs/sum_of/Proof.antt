@@ -38,6 +38,9 @@ loop-again : tie.Need-loop-again Inv-loop μ-loop
 loop-again c =
     omega (arith, c .shared-slice-known .given (c .before .before .loop .i), sum-take (c .before .before .before .args .s .now) (c .before .before .loop .i) (c .before .loop-test .taken))
 
+cast-result : tie.Need-cast-result Inv-loop μ-loop
+cast-result c = search needs
+
 returns : tie.Need-returns Inv-loop μ-loop
 returns c =
     c .before .loop .inv .1 ∙ simp (take-all (c .before .loop .i) (c .before .before .args .s .now) (c .loop-test .left))
@@ -55,4 +58,5 @@ sum-of-spec =
     add-i
     loop-less
     loop-again
+    cast-result
     returns)
