@@ -15,7 +15,7 @@ use Rattle.rules.specs.Block.{empty, full, broken, active, ramp, cycle, stateOf
 use Rattle.rules.specs.Cells.{Low, same?, sum}
 use Rattle.rules.specs.Search.{Found, at, nowhere, pick}
 use Rattle.rules.specs.SearchLaws.{First, hit, miss, first-eq, first-is, pick-no, pick-yes}
-use Rattle.block.specs.Meaning.{asPlace, startOf}
+use Rattle.block.specs.Meaning.{Higher, asPlace, fromCell, rampTest, startOf}
 use Rattle.block.specs.declared.Start.{Start}
 use Rattle.block.specs.declared.Start.the-variants.{At, Nowhere}
 
@@ -68,14 +68,6 @@ ramp-not L v s c l n e = n (ap (λ (r : List ℕ). getD r c 0) e ∙ getD-ramp L
 
 -- ---- a block on the cycle from start i
 
--- the cells from cell i on, as a part lent on
-abbrev pub fromCell : ℕ → List ℕ → List ℕ
-fromCell i b = take (length b - i) (drop i b)
-
--- whether a run of cells is the ramp of weight v
-abbrev pub rampTest : ℕ → ℕ → List ℕ → Bool
-rampTest L v s = pick (same? s (ramp L v (length s))) true false
-
 module _ (L i v : ℕ) (b : List ℕ) (l : i ≤ length b) where
   -- the part is the rest of the block
   from-all : fromCell i b ≡ drop i b
@@ -113,10 +105,6 @@ module _ (L i v : ℕ) (b : List ℕ) (l : i ≤ length b) where
       (test-same (same? (take i b) (ramp L (v - (length b - i) * L) i)) (same? b (cycle (length b) L i v)) (λ p. both-parts p q) low-part)
 
 -- ---- the first rising cell
-
--- cell c is higher than the one before it
-abbrev pub Higher : List ℕ → ℕ → Type 0
-Higher b c = getD b (cellBefore (length b) c) 0 < getD b c 0
 
 -- whoever shows what an answer means has the first rising cell
 pub start-is : (b : List ℕ) {f : Found} → First (Higher b) (length b) f → f ≡ startOf b

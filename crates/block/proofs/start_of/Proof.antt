@@ -8,7 +8,8 @@ use lib.ListN.{length, getD}
 use Rattle.laws.specs.Rise.{cellBefore}
 use Rattle.rules.specs.Search.{nowhere}
 use Rattle.rules.specs.SearchLaws.{First, first-hit, first-miss, first-none}
-use Rattle.block.specs.StateLaws.{Higher, start-is}
+use Rattle.block.specs.Meaning.{Higher}
+use Rattle.block.specs.StateLaws.{start-is}
 use Rattle.block.proofs.start_of.Statement.{statement}
 use Rattle.block.proofs.start_of.Tie as tie
 
