@@ -1,10 +1,9 @@
 -- Laws of sums, of the greatest level, of the first cell above a level, of cells that are all 0, and of the sheet from a block on. Assumes nothing.
-use mathlib.Core.Bool.{Bool, true, false}
+use mathlib.Core.Bool.{true, false}
 use mathlib.Core.List.{List, [], _∷_, _++_, append-nil}
 use mathlib.Core.Path.{_≡_, _∙_, ap, ap₂, refl, subst, sym}
 use Prim.Native.Nat.{ℕ, zero, suc, _+_, _-_, _*_, _≤_, _<_, max}
 use native.Mathlib.Decide.{decLt}
-use native.Mathlib.Nat.{le-of-suc-le-suc, not-suc-le-zero}
 use native.Mathlib.Numerals.{add-one}
 use native.Mathlib.Omega.{arith}
 use borrow.Author.Tests.{eq-eqb, ne-eqb}
@@ -12,10 +11,13 @@ use lib.Dec.{eqb}
 use lib.ListN.{length, getD, take, drop, replicate, length-drop, drop-of-length-le}
 use lib.Seq.{take-suc, take-all, drop-drop}
 use Rattle.laws.specs.Lists.{sum-part}
+use Rattle.rules.specs.Calls.{levelCheck}
 use Rattle.rules.specs.Cells.{Low, block, firstAbove, same?, store, sum}
-use Rattle.rules.specs.Search.{Found, at, nowhere, pick}
-use Rattle.rules.specs.SearchLaws.{First, hit, miss, first-eq, first-is, pick-elim}
-use Rattle.block.specs.Meaning.{greatestOf}
+use Rattle.rules.specs.Search.{Found, nowhere, pick}
+use Rattle.rules.specs.SearchLaws.{First, miss, first-eq, first-is, pick-elim}
+use Rattle.block.specs.Meaning.{asFound, checkOf, greatestOf}
+use Rattle.block.specs.declared.Level.{Level}
+use Rattle.block.specs.declared.Level.the-variants.{Above, Fine}
 
 -- ---- sums
 
@@ -42,12 +44,13 @@ greatest-take s i h =
     ∙ greatest-append (take i s) (getD s i 0 ∷ [])
     ∙ omega arith
 
--- the greatest level is at most L exactly if no level is above L
+-- where the greatest level is at most L, no level is above L
 pub greatest-low : (L : ℕ) (s : List ℕ) → greatestOf s ≤ L → Low L s
 unfolding greatestOf
 greatest-low L [] h = tt
 greatest-low L (x ∷ s) h = (omega arith, greatest-low L s (omega arith))
 
+-- and the other way
 pub low-greatest : (L : ℕ) (s : List ℕ) → Low L s → greatestOf s ≤ L
 unfolding greatestOf
 low-greatest L [] h = omega arith
@@ -62,6 +65,7 @@ low-at L [] h (suc c) = omega arith
 low-at L (x ∷ s) h zero = h .0
 low-at L (x ∷ s) h (suc c) = low-at L s (h .1) c
 
+-- and from the cells back
 low-cells : (L : ℕ) (s : List ℕ) → ((c : ℕ) → c < length s → getD s c 0 ≤ L) → Low L s
 low-cells L [] h = tt
 low-cells L (x ∷ s) h = (h 0 (omega arith), low-cells L s (λ c l. h (suc c) (omega arith)))
@@ -75,23 +79,31 @@ pub above-is : (L : ℕ) (s : List ℕ) {f : Found} → First (λ c. L < getD s 
 unfolding firstAbove
 above-is L s h = sym (first-eq (λ c. decLt L (getD s c 0)) (length s) h)
 
--- no cell is found above L exactly if no level is above L
+-- where no level is above L, no cell is found above L
 pub low-fine : (L : ℕ) (s : List ℕ) → Low L s → firstAbove L s ≡ nowhere
 low-fine L s h = sym (above-is L s (miss (λ c l q. omega (arith, low-at L s h c))))
 
+-- and the other way
 pub fine-low : (L : ℕ) (s : List ℕ) → firstAbove L s ≡ nowhere → Low L s
 unfolding firstAbove
 fine-low L s e =
     let f : First (λ c. L < getD s c 0) (length s) nowhere = subst (First (λ c. L < getD s c 0) (length s)) e (first-is (λ c. decLt L (getD s c 0)) (length s)) in
     low-cells L s (λ c l. let n : ¬ (L < getD s c 0) = none-there f c l in omega arith)
 
+-- what the check of the levels makes of the place found
+pub check-is : (r : Level) {f : Found} → asFound r ≡ f → checkOf r ≡ levelCheck f
+check-is Fine e = ap levelCheck e
+check-is (Above c) e = ap levelCheck e
+
 -- ---- cells that are all 0
 
+-- cells whose greatest is 0 are all 0
 greatest-zero : (s : List ℕ) → greatestOf s ≡ 0 → s ≡ replicate (length s) 0
 unfolding greatestOf
 greatest-zero [] e = refl
 greatest-zero (x ∷ s) e = ap₂ (λ (y : ℕ) (r : List ℕ). y ∷ r) (omega arith) (greatest-zero s (omega arith))
 
+-- and the greatest of cells that are all 0 is 0
 zero-greatest : (n : ℕ) → greatestOf (replicate n 0) ≡ 0
 unfolding greatestOf
 zero-greatest zero = refl
@@ -107,6 +119,7 @@ all-zero-is s =
 -- ---- the sheet from block j on
 
 module _ (k : ℕ) (s : List ℕ) (j : ℕ) where
+  -- the part up to the sheet's end is the rest of the sheet
   part-all : take (length s - j * k) (drop (j * k) s) ≡ drop (j * k) s
   part-all = take-all (length s - j * k) (drop (j * k) s) (omega (arith, length-drop (j * k) s))
 

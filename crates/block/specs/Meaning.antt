@@ -1,11 +1,13 @@
 -- What the answers on one block and on runs of cells mean, as definitions of the rules. Assumes nothing.
+use mathlib.Core.Bool.{Bool, true, false}
 use mathlib.Core.List.{List, [], _∷_}
-use Prim.Native.Nat.{ℕ, max}
+use Prim.Native.Nat.{ℕ, _-_, _<_, max}
 use native.Mathlib.Decide.{decLt}
-use lib.ListN.{length, getD}
+use lib.ListN.{length, getD, take, drop}
 use Rattle.laws.specs.Rise.{cellBefore}
-use Rattle.rules.specs.Block.{State, empty, full, broken, active}
-use Rattle.rules.specs.Search.{Found, at, nowhere, first}
+use Rattle.rules.specs.Block.{State, empty, full, broken, active, ramp}
+use Rattle.rules.specs.Cells.{same?}
+use Rattle.rules.specs.Search.{Found, at, nowhere, first, pick}
 use Rattle.rules.specs.declared.Answer.the-variants.{BadLevel}
 use Rattle.rules.specs.declared.Check.{Check}
 use Rattle.rules.specs.declared.Check.the-variants.{Pass, Refuse}
@@ -31,10 +33,14 @@ abbrev pub checkOf : Level → Check
 checkOf Fine = Pass
 checkOf (Above c) = Refuse (BadLevel c)
 
--- the place that a look for a start found
+-- the place that the look for a start found
 abbrev pub asPlace : Start → Found
 asPlace (At c) = at c
 asPlace Nowhere = nowhere
+
+-- cell c is higher than the one before it
+abbrev pub Higher : List ℕ → ℕ → Type 0
+Higher b c = getD b (cellBefore (length b) c) 0 < getD b c 0
 
 -- the first cell that is higher than the one before it; before cell 0 comes the last
 unfoldable pub startOf : List ℕ → Found
@@ -46,3 +52,11 @@ asState Empty = empty
 asState Full = full
 asState (Active bit v) = active bit v
 asState Broken = broken
+
+-- the cells from cell i on, as a part lent on
+abbrev pub fromCell : ℕ → List ℕ → List ℕ
+fromCell i b = take (length b - i) (drop i b)
+
+-- whether a run of cells is the ramp of weight v
+abbrev pub rampTest : ℕ → ℕ → List ℕ → Bool
+rampTest L v s = pick (same? s (ramp L v (length s))) true false

@@ -34,13 +34,13 @@ pub fn sum_of(s: &[u8]) -> usize
     requires { ⌜ length (now s) ≤ 65536 ⌝ }
     ensures { λ r. ⌜ r ≡ sum (now (s .entry)) ⌝ }
 {
-    let mut total: usize = 0;
+    let mut total: u32 = 0;
     let mut i: usize = 0;
     while i < s.len() {
-        total += s[i] as usize;
+        total += s[i] as u32;
         i += 1;
     }
-    total
+    total as usize
 }
 
 // The greatest level, 0 where there is no cell.

@@ -6,15 +6,10 @@ use lib.Dec.{eqb}
 use Rattle.block.specs.Laws.{all-zero-is}
 use Rattle.block.proofs.all_zero.Statement.{statement}
 use Rattle.block.proofs.all_zero.Tie as tie
-use Rattle.block.proofs.all_zero.Reads as reads
-use Rattle.block.proofs.all_zero.Lts as lts
-use Rattle.block.proofs.greatest.Reads as greatest-reads
 
--- src/lib.rt:67:5
 greatest-requires : tie.Need-greatest-requires
 greatest-requires c κs = search needs
 
--- src/lib.rt:64:1
 returns : tie.Need-returns
 returns c = ap (λ (r : ℕ). eqb r 0) (c .greatest .ensures) ∙ all-zero-is (c .before .before .args .s .now)
 

@@ -9,9 +9,6 @@ use Rattle.rules.specs.Search.{nowhere}
 use Rattle.rules.specs.SearchLaws.{First, first-hit, first-miss, first-none}
 use Rattle.block.proofs.first_above.Statement.{statement}
 use Rattle.block.proofs.first_above.Tie as tie
-use Rattle.block.proofs.first_above.Reads as reads
-use Rattle.block.proofs.first_above.Lts as lts
-use Rattle.block.proofs.greatest.Reads as greatest-reads
 
 abbrev Inv-loop : tie.InvT-loop
 Inv-loop s top i₀ i = (i ≤ length s) × First (λ x. top < getD s x 0) i nowhere
@@ -19,44 +16,35 @@ Inv-loop s top i₀ i = (i ≤ length s) × First (λ x. top < getD s x 0) i now
 abbrev μ-loop : tie.MeasureT-loop
 μ-loop s top i₀ i = length s - i
 
--- src/lib.rt:50:8
 greatest-requires : tie.Need-greatest-requires Inv-loop μ-loop
 greatest-requires c κs = search needs
 
--- src/lib.rt:51:9
 returns : tie.Need-returns Inv-loop μ-loop
 returns c =
     let a = c .before .before .before .args in
     sym (low-fine (a .top) (a .s .now) (greatest-low (a .top) (a .s .now) (omega arith)))
 
--- src/lib.rt:54:5
 loop-holds : tie.Need-loop-holds Inv-loop μ-loop
 loop-holds c = (search needs, first-none)
 
--- src/lib.rt:55:18
 shared-slice-read-if2 : tie.Need-shared-slice-read-if2 Inv-loop μ-loop
 shared-slice-read-if2 c = search needs
 
--- src/lib.rt:56:13
 returns-2 : tie.Need-returns-2 Inv-loop μ-loop
 returns-2 c =
     let l = c .before .before .before in
     let a = l .before .before .before .before .args in
     above-is (a .top) (a .s .now) (first-hit _ (l .loop .inv .1) (omega arith) (omega arith))
 
--- src/lib.rt:58:9
 add-i : tie.Need-add-i Inv-loop μ-loop
 add-i c = search needs
 
--- src/lib.rt:54:5
 loop-less : tie.Need-loop-less Inv-loop μ-loop
 loop-less c = search needs
 
--- src/lib.rt:54:5
 loop-again : tie.Need-loop-again Inv-loop μ-loop
 loop-again c = (search needs, first-miss (c .before .before .before .loop .inv .1) (λ h. omega arith))
 
--- src/lib.rt:47:1
 returns-3 : tie.Need-returns-3 Inv-loop μ-loop
 returns-3 c =
     let a = c .before .before .before .before .before .args in

@@ -10,8 +10,6 @@ use Rattle.block.specs.Laws.{greatest-take}
 use Rattle.block.specs.Meaning.{greatestOf}
 use Rattle.block.proofs.greatest.Statement.{statement}
 use Rattle.block.proofs.greatest.Tie as tie
-use Rattle.block.proofs.greatest.Reads as reads
-use Rattle.block.proofs.greatest.Lts as lts
 
 abbrev Inv-loop : tie.InvT-loop
 Inv-loop s best₀ i₀ best i = (i ≤ length s) × (best ≡ greatestOf (take i s))
@@ -19,31 +17,25 @@ Inv-loop s best₀ i₀ best i = (i ≤ length s) × (best ≡ greatestOf (take 
 abbrev μ-loop : tie.MeasureT-loop
 μ-loop s best₀ i₀ best i = length s - i
 
--- src/lib.rt:36:5
 loop-holds : tie.Need-loop-holds Inv-loop μ-loop
 unfolding greatestOf
 loop-holds c = search needs
 
--- src/lib.rt:37:17
 shared-slice-read-x : tie.Need-shared-slice-read-x Inv-loop μ-loop
 shared-slice-read-x c = search needs
 
--- src/lib.rt:41:9
 add-i : tie.Need-add-i Inv-loop μ-loop
 add-i c = search needs
 
--- src/lib.rt:36:5
 loop-less : tie.Need-loop-less Inv-loop μ-loop
 loop-less c = search needs
 
--- src/lib.rt:36:5
 loop-again : tie.Need-loop-again Inv-loop μ-loop
 loop-again c =
     let l = c .before .before .before in
     let e = greatest-take (l .before .args .s .now) (l .loop .i) (omega arith) in
     ⊎-elim (λ w. omega arith) (λ w. omega arith) (c .if1 .came)
 
--- src/lib.rt:31:1
 returns : tie.Need-returns Inv-loop μ-loop
 returns c =
     c .before .loop .inv .1 ∙ simp (take-all (c .before .loop .i) (c .before .before .args .s .now) (c .loop-test .left))

@@ -12,9 +12,6 @@ use Rattle.rules.specs.SearchLaws.{pick-no, pick-yes}
 use Rattle.block.specs.StateLaws.{ramp-is, ramp-not}
 use Rattle.block.proofs.on_ramp.Statement.{statement}
 use Rattle.block.proofs.on_ramp.Tie as tie
-use Rattle.block.proofs.on_ramp.Reads as reads
-use Rattle.block.proofs.on_ramp.Lts as lts
-use Rattle.block.proofs.lesser.Reads as lesser-reads
 
 abbrev Inv-loop : tie.InvT-loop
 Inv-loop s top v left₀ i₀ left i = (i ≤ length s) × (left ≡ v - i * top) × ((x : ℕ) → x < i → getD s x 0 ≡ min top (v - x * top))
@@ -22,48 +19,38 @@ Inv-loop s top v left₀ i₀ left i = (i ≤ length s) × (left ≡ v - i * top
 abbrev μ-loop : tie.MeasureT-loop
 μ-loop s top v left₀ i₀ left i = length s - i
 
--- src/lib.rt:117:5
 loop-holds : tie.Need-loop-holds Inv-loop μ-loop
 loop-holds c = (search needs, omega arith, below-none _)
 
--- src/lib.rt:118:13
 lesser-requires : tie.Need-lesser-requires Inv-loop μ-loop
 lesser-requires c κs = search needs
 
--- src/lib.rt:119:12
 shared-slice-read-if1 : tie.Need-shared-slice-read-if1 Inv-loop μ-loop
 shared-slice-read-if1 c = search needs
 
--- src/lib.rt:119:12
 cast-if1 : tie.Need-cast-if1 Inv-loop μ-loop
 cast-if1 c = omega (arith, c .shared-slice-known2 .given (c .before .before .before .loop .i))
 
--- src/lib.rt:120:13
 returns : tie.Need-returns Inv-loop μ-loop
 returns c =
     let l = c .before .before .before .before in
     let a = l .before .before .args in
     sym (pick-no (same? (a .s .now) (ramp (a .top) (a .v) (length (a .s .now)))) true false (ramp-not (a .top) (a .v) (a .s .now) (l .loop .i) (omega arith) (λ e. omega arith)))
 
--- src/lib.rt:122:9
 sub-left : tie.Need-sub-left Inv-loop μ-loop
 sub-left c = search needs
 
--- src/lib.rt:123:9
 add-i : tie.Need-add-i Inv-loop μ-loop
 add-i c = search needs
 
--- src/lib.rt:117:5
 loop-less : tie.Need-loop-less Inv-loop μ-loop
 loop-less c = search needs
 
--- src/lib.rt:117:5
 loop-again : tie.Need-loop-again Inv-loop μ-loop
 loop-again c =
     let l = c .before .before .before .before in
     (search needs, omega arith, below-more _ _ (l .loop .inv .2) (omega arith))
 
--- src/lib.rt:112:1
 returns-2 : tie.Need-returns-2 Inv-loop μ-loop
 returns-2 c =
     let l = c .before in

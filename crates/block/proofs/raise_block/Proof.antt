@@ -1,6 +1,6 @@
 -- `block::raise_block` meets its contract: the part lent on, put back, is the sheet with that block stored. Assumes nothing.
 use mathlib.Core.Path.{_∙_}
-use Prim.Native.Nat.{_+_, _*_, _≤_, _<_}
+use Prim.Native.Nat.{_+_}
 use native.Mathlib.Omega.{arith}
 use borrow.Author.Needs.{needs}
 use lib.ListN.{length-drop, length-take}
@@ -8,37 +8,27 @@ use Rattle.rules.specs.Block.{cycle}
 use Rattle.block.specs.Laws.{part-back, part-block}
 use Rattle.block.proofs.raise_block.Statement.{statement}
 use Rattle.block.proofs.raise_block.Tie as tie
-use Rattle.block.proofs.raise_block.Reads as reads
-use Rattle.block.proofs.raise_block.Lts as lts
-use Rattle.block.proofs.raise_step.Reads as raise-step-reads
 
--- src/lib.rt:88:13
 mul-a : tie.Need-mul-a
 mul-a c = search needs
 
--- src/lib.rt:89:16
 sub-raise-step : tie.Need-sub-raise-step
 sub-raise-step c = search needs
 
--- src/lib.rt:89:16
 part-raise-step-start : tie.Need-part-raise-step-start
 part-raise-step-start c = search needs
 
--- src/lib.rt:89:16
 part-raise-step-end : tie.Need-part-raise-step-end
 part-raise-step-end c = search needs
 
--- src/lib.rt:89:5
 raise-step-requires : tie.Need-raise-step-requires
 raise-step-requires c κs =
     let a = c .before .before .args in
     (simp (length-take, length-drop) (omega arith), part-block (a .k) (a .sheet .now) (a .j) ∙ c .before .before .pre .1)
 
--- src/lib.rt:83:1
 same-length : tie.Need-same-length
 same-length c = search needs
 
--- src/lib.rt:83:1
 returns : tie.Need-returns
 returns c =
     let a = c .before .before .before .before .before .args in

@@ -1,51 +1,39 @@
 -- `block::raise_step` meets its contract: the one cell raised is the step's. Assumes nothing.
-use mathlib.Core.Path.{_≡_}
-use Prim.Native.Nat.{_+_, _*_, _≤_, _<_}
 use native.Mathlib.Omega.{arith}
 use borrow.Author.Needs.{needs}
 use Rattle.laws.specs.Step.{part-below, part-step, step-in, turns-lt}
 use Rattle.block.proofs.raise_step.Statement.{statement}
 use Rattle.block.proofs.raise_step.Tie as tie
-use Rattle.block.proofs.raise_step.Reads as reads
-use Rattle.block.proofs.raise_step.Lts as lts
 
--- src/lib.rt:78:23
 div-cell : tie.Need-div-cell
 div-cell c = search needs
 
--- src/lib.rt:78:17
 add-cell : tie.Need-add-cell
 add-cell c =
     let a = c .args in
     omega (arith, turns-lt (a .top) (a .weight) (omega arith) (a .k) (omega arith))
 
--- src/lib.rt:78:16
 rem-cell : tie.Need-rem-cell
 rem-cell c = search needs
 
--- src/lib.rt:79:5
 slice-read-part : tie.Need-slice-read-part
 slice-read-part c =
     let a = c .before .args in
     omega (arith, step-in (a .k) (a .top) (a .bit) (omega arith) (a .weight) (omega arith) (omega arith))
 
--- src/lib.rt:79:5
 add-part : tie.Need-add-part
 add-part c =
     let a = c .before .args in
     omega (arith, part-below (a .k) (a .top) (a .bit) (omega arith) (a .weight) (omega arith) (omega arith) (a .part .now) (c .before .pre .1))
 
--- src/lib.rt:79:5
 slice-write-part : tie.Need-slice-write-part
 slice-write-part c =
     let a = c .before .args in
     omega (arith, step-in (a .k) (a .top) (a .bit) (omega arith) (a .weight) (omega arith) (omega arith))
 
--- src/lib.rt:73:1
 same-length : tie.Need-same-length
 same-length c = search needs
 
--- src/lib.rt:73:1
 returns : tie.Need-returns
 returns c =
     let a = c .before .args in

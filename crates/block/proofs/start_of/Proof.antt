@@ -8,11 +8,10 @@ use lib.ListN.{length, getD}
 use Rattle.laws.specs.Rise.{cellBefore}
 use Rattle.rules.specs.Search.{nowhere}
 use Rattle.rules.specs.SearchLaws.{First, first-hit, first-miss, first-none}
-use Rattle.block.specs.StateLaws.{Higher, start-is}
+use Rattle.block.specs.Meaning.{Higher}
+use Rattle.block.specs.StateLaws.{start-is}
 use Rattle.block.proofs.start_of.Statement.{statement}
 use Rattle.block.proofs.start_of.Tie as tie
-use Rattle.block.proofs.start_of.Reads as reads
-use Rattle.block.proofs.start_of.Lts as lts
 
 abbrev Inv-loop : tie.InvT-loop
 Inv-loop b before₀ i₀ before i = (i ≤ length b) × (before ≡ getD b (cellBefore (length b) i) 0) × First (Higher b) i nowhere
@@ -20,44 +19,35 @@ Inv-loop b before₀ i₀ before i = (i ≤ length b) × (before ≡ getD b (cel
 abbrev μ-loop : tie.MeasureT-loop
 μ-loop b before₀ i₀ before i = length b - i
 
--- src/lib.rt:91:24
 sub-before : tie.Need-sub-before Inv-loop μ-loop
 sub-before c = search needs
 
--- src/lib.rt:91:22
 shared-slice-read-before : tie.Need-shared-slice-read-before Inv-loop μ-loop
 shared-slice-read-before c = search needs
 
--- src/lib.rt:93:5
 loop-holds : tie.Need-loop-holds Inv-loop μ-loop
 loop-holds c = (search needs, search needs, first-none)
 
--- src/lib.rt:94:17
 shared-slice-read-x : tie.Need-shared-slice-read-x Inv-loop μ-loop
 shared-slice-read-x c = search needs
 
--- src/lib.rt:96:13
 returns : tie.Need-returns Inv-loop μ-loop
 returns c =
     let l = c .before .before .before in
     start-is _ (first-hit _ (l .loop .inv .2) (omega arith) (omega arith))
 
--- src/lib.rt:99:9
 add-i : tie.Need-add-i Inv-loop μ-loop
 add-i c = search needs
 
--- src/lib.rt:93:5
 loop-less : tie.Need-loop-less Inv-loop μ-loop
 loop-less c = search needs
 
--- src/lib.rt:93:5
 loop-again : tie.Need-loop-again Inv-loop μ-loop
 loop-again c =
     let l = c .before .before .before in
     let b = l .before .before .args .b .now in
     (search needs, ap (λ (n : ℕ). getD b (cellBefore (length b) n) 0) (sym (add-one (l .loop .i))), first-miss (l .loop .inv .2) (λ h. omega arith))
 
--- src/lib.rt:87:1
 returns-2 : tie.Need-returns-2 Inv-loop μ-loop
 returns-2 c =
     let l = c .before in

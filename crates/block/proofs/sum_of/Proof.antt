@@ -1,6 +1,6 @@
 -- `block::sum_of` meets its contract: the total is the sum of the cells passed. Assumes nothing.
 use mathlib.Core.Path.{_≡_, _∙_}
-use Prim.Native.Nat.{_+_, _≤_, _*_, _-_}
+use Prim.Native.Nat.{_≤_, _*_, _-_}
 use native.Mathlib.Omega.{arith}
 use borrow.Author.Needs.{needs}
 use lib.ListN.{length, take}
@@ -9,8 +9,6 @@ use Rattle.block.specs.Laws.{sum-take}
 use Rattle.rules.specs.Cells.{sum}
 use Rattle.block.proofs.sum_of.Statement.{statement}
 use Rattle.block.proofs.sum_of.Tie as tie
-use Rattle.block.proofs.sum_of.Reads as reads
-use Rattle.block.proofs.sum_of.Lts as lts
 
 abbrev Inv-loop : tie.InvT-loop
 Inv-loop s total₀ i₀ total i = (i ≤ length s) × (total ≡ sum (take i s)) × (total ≤ 255 * i)
@@ -18,36 +16,31 @@ Inv-loop s total₀ i₀ total i = (i ≤ length s) × (total ≡ sum (take i s)
 abbrev μ-loop : tie.MeasureT-loop
 μ-loop s total₀ i₀ total i = length s - i
 
--- src/lib.rt:23:5
 loop-holds : tie.Need-loop-holds Inv-loop μ-loop
 loop-holds c = search needs
 
--- src/lib.rt:24:18
 shared-slice-read-total : tie.Need-shared-slice-read-total Inv-loop μ-loop
 shared-slice-read-total c = search needs
 
--- src/lib.rt:24:18
 cast-total : tie.Need-cast-total Inv-loop μ-loop
 cast-total c = omega (arith, c .shared-slice-known .given (c .before .before .loop .i))
 
--- src/lib.rt:24:9
 add-total : tie.Need-add-total Inv-loop μ-loop
 add-total c = omega (arith, c .shared-slice-known .given (c .before .before .loop .i))
 
--- src/lib.rt:25:9
 add-i : tie.Need-add-i Inv-loop μ-loop
 add-i c = search needs
 
--- src/lib.rt:23:5
 loop-less : tie.Need-loop-less Inv-loop μ-loop
 loop-less c = search needs
 
--- src/lib.rt:23:5
 loop-again : tie.Need-loop-again Inv-loop μ-loop
 loop-again c =
     omega (arith, c .shared-slice-known .given (c .before .before .loop .i), sum-take (c .before .before .before .args .s .now) (c .before .before .loop .i) (c .before .loop-test .taken))
 
--- src/lib.rt:17:1
+cast-result : tie.Need-cast-result Inv-loop μ-loop
+cast-result c = search needs
+
 returns : tie.Need-returns Inv-loop μ-loop
 returns c =
     c .before .loop .inv .1 ∙ simp (take-all (c .before .loop .i) (c .before .before .args .s .now) (c .loop-test .left))
@@ -65,4 +58,5 @@ sum-of-spec =
     add-i
     loop-less
     loop-again
+    cast-result
     returns)
