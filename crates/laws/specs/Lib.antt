@@ -9,3 +9,7 @@ pub mod Chop
 pub mod Stage
 pub mod Index
 pub mod Live
+pub mod PlainMaps
+pub mod PlainSheet
+pub mod Halve
+pub mod Parity

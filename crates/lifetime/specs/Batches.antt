@@ -13,10 +13,11 @@ use Rattle.laws.specs.Block.{rises}
 use Rattle.laws.specs.Chop.{chop-join, chop-sized, join-chop, length-chop, length-join, low-join}
 use Rattle.laws.specs.Cut.{length-block, length-store, low-block, low-store, store-other, store-past, store-rises, store-same}
 use Rattle.laws.specs.Index.{NumberFits, digits-low, digits-zero, entry-stored, length-digits, num-digits, pow-pos′, stored-entry}
+use Rattle.laws.specs.Parity.{count-width}
 use Rattle.laws.specs.Lists.{drop-replicate, low-append, low-drop, low-replicate, low-take, rises-append, rises-full, rises-same, rises-zero, sum-append, sum-replicate, take-replicate}
 use Rattle.laws.specs.Stage.{Forth, Sized, Used, close, end, name, same}
-use Rattle.lifetime.specs.Plain.{keeps}
-use Rattle.lifetime.specs.PlainSheet.{blocks-lawful, lawful-blocks}
+use Rattle.laws.specs.PlainMaps.{keeps}
+use Rattle.laws.specs.PlainSheet.{blocks-lawful, lawful-blocks}
 use Rattle.lifetime.specs.Storage.{Storage}
 use Rattle.rules.specs.Batches.{batch, decode, digits, entryCells, entryOf, indexCells, number, sheetAt, write}
 use Rattle.rules.specs.Block.{full}
@@ -326,7 +327,7 @@ module _ (s m L w n : ℕ) (g : 0 < L) (pos : 1 < s) (fit : 2 ^ s + 2 ≤ suc L 
         long = tail-short f e;
         low = low-take L (m * 2 ^ s) f low;
         stands = record {
-          sized = chop-sized (parityLength d) L (parityCount s m d) (take (m * 2 ^ s) f) (omega (arith, tail-short f e, S.count-width s m L d (omega arith) (omega arith))) (low-take L (m * 2 ^ s) f low);
+          sized = chop-sized (parityLength d) L (parityCount s m d) (take (m * 2 ^ s) f) (omega (arith, tail-short f e, count-width s m d (omega arith) (omega arith))) (low-take L (m * 2 ^ s) f low);
           even = ok .0;
           names = ok .1;
         };

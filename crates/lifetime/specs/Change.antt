@@ -21,7 +21,7 @@ use Rattle.rules.specs.declared.Answer.{Answer}
 use Rattle.rules.specs.declared.Answer.the-variants.{Done, Erase}
 use Rattle.laws.specs.Lists.{rises-sum}
 use Rattle.lifetime.specs.Place.{NoBlockLeft, NoPlace, plain-place, cells-place}
-use Rattle.lifetime.specs.PlainSheet as P
+use Rattle.laws.specs.PlainSheet as P
 use Rattle.lifetime.specs.Storage as T
 use Rattle.lifetime.specs.Storage.{Storage}
 use Rattle.lifetime.specs.Batches.{kind-1, sound-fits, fits-sound}

@@ -1,11 +1,8 @@
 -- Demands 2 and 3.
-pub mod Plain
-pub mod PlainSheet
 pub mod Tight
 pub mod Up
 pub mod Within
 pub mod Move
-pub mod Halve
 pub mod Staged
 pub mod Storage
 pub mod Batches

@@ -16,7 +16,7 @@ use Rattle.rules.specs.Cells.{tabulate}
 use Rattle.rules.specs.Stage.{Entry, indexes, Absent, Within, stay, beyond, chosen, changeWithin}
 use Rattle.rules.specs.Staged.{Sheet, stage0, staged, parityLength, parityBlocks, liveCount, moveTo, later, after, read, fromStage0, fromStaged, change, written, changeCells}
 use Rattle.laws.specs.Stage.{absent-at, at-absent}
-use Rattle.lifetime.specs.Plain.{NoBlock}
+use Rattle.laws.specs.PlainMaps.{NoBlock}
 
 -- no block has bit i, and none is empty
 abbrev pub NoBlockLeft : ℕ → ℕ → ℕ → ℕ → List ℕ → Type 0

@@ -19,7 +19,7 @@ use Rattle.rules.specs.Answer.{numberOf}
 use Rattle.rules.specs.declared.Settings.{Settings}
 use Rattle.rules.specs.declared.Answer.{Answer}
 use Rattle.rules.specs.declared.Answer.the-variants.{Done, BadShape, BadLength, ShortOutput, BadBit, BadLevel, BadSheet, Erase, BadRecord}
-use Rattle.lifetime.specs.PlainSheet as P
+use Rattle.laws.specs.PlainSheet as P
 use Rattle.lifetime.specs.Storage as T
 use Rattle.lifetime.specs.Tight as E
 use Rattle.lifetime.specs.Calls.{Accepted, Refusal, Making, refuses, erases, makes, change-is, Erasing, refusing, clears, erase-is, erase-passes}

@@ -4,17 +4,18 @@ use mathlib.Core.Logic.{_≢_, _⊎_, inl, inr}
 use mathlib.Core.Path.{_∙_, _≡_, ap, ap₂, refl, subst, subst₂, sym}
 use Prim.Native.Nat.{_%_, _*_, _+_, _-_, _<_, _^_, _≤_, suc, zero, zero-le, ℕ}
 use native.Mathlib.Decide.{decLe, ℕ-discrete}
-use native.Mathlib.Nat.{add-mul, le-of-suc-le-suc, le-refl, mod-lt, mul-le-mul-right, not-suc-le-zero, pow-suc, sub-zero}
+use native.Mathlib.Nat.{le-of-suc-le-suc, le-refl, mod-lt, mul-le-mul-right, not-suc-le-zero, pow-suc, sub-zero}
 use native.Mathlib.Omega.{arith}
 use lib.ListN.{getD, length, length-append, length-replicate, replicate}
-use lib.Pow.{pow-add, pow-pos}
+use lib.Pow.{pow-pos}
 use Rattle.laws.specs.Block.{rises}
 use Rattle.laws.specs.Chop.{chop-join, chop-sized, join-chop, length-chop, length-join, length-record, low-join, sum-join, sums-chop}
+use Rattle.laws.specs.Halve.{plain-live}
 use Rattle.laws.specs.Lists.{sum-replicate}
+use Rattle.laws.specs.Parity.{count-width, even-width, half-live}
+use Rattle.laws.specs.PlainMaps.{few, flips, keeps}
 use Rattle.laws.specs.Stage.{Forth, Sized, Used, full-sums, names-few, record-le, same, sums, used-append}
-use Rattle.lifetime.specs.Halve.{halves-weights, plain-live, twice, twice-is}
 use Rattle.lifetime.specs.Move.{Bits, entries-even, entries-names, entries-read, entries-used, indexes-pad, length-entries, record-sized}
-use Rattle.lifetime.specs.Plain.{activeBits, few, flips, keeps}
 use Rattle.lifetime.specs.Up.{record-up, up-join}
 use Rattle.lifetime.specs.Within.{InLaw, Stands, in-law}
 use Rattle.rules.specs.Block.{full}
@@ -23,7 +24,7 @@ use Rattle.rules.specs.Search.{Result, done, here, noPlace}
 use Rattle.rules.specs.SearchLaws.{pick-elim, pick-no, pick-yes}
 use Rattle.rules.specs.Stage.{Entry, Names, Within, beyond, changeWithin, closed, indexes, liveWeights, recordAll, recordedEntries, stay, valueOf, weightOf}
 use Rattle.rules.specs.Staged.{Sheet, after, change, fromStage0, fromStaged, later, moveTo, parityBlocks, parityCount, parityLength, read, stage0, staged}
-use Rattle.lifetime.specs.PlainSheet as P
+use Rattle.laws.specs.PlainSheet as P
 use Rattle.rules.specs.Plain as R
 
 -- ---- accepted sheets and the law of a change
@@ -95,35 +96,11 @@ module _ (s m L : ℕ) where
   ReplyLaw i x (done y) = Changed i x y
   ReplyLaw i x noPlace = m * 2 ^ s * L ≤ levels x + (2 ^ s - 1) * (2 * L)
 
-  pub count-width : (d : ℕ) → d ≤ s - 1 → 0 < s → parityCount s m d * parityLength d ≡ m * 2 ^ s
-  count-width d h p =
-      let e : suc d + (s - 1 - d) ≡ s = omega arith in
-      let q : 2 ^ d * 2 * 2 ^ (s - 1 - d) ≡ 2 ^ s = ap (λ (x : ℕ). x * 2 ^ (s - 1 - d)) (sym (pow-suc 2 d)) ∙ sym (pow-add 2 (suc d) (s - 1 - d)) ∙ ap (λ (x : ℕ). 2 ^ x) e in
-      omega (arith, ap (λ (x : ℕ). m * x) q)
-
-  even-width : (d : ℕ) → parityLength d * L % 2 ≡ 0
-  even-width d = omega arith
-
-  -- halving at most doubles how many parity blocks are not full
-  half-live : (d : ℕ) (xs : List ℕ) → suc d ≤ s - 1 → 0 < s → length xs ≡ m * 2 ^ s → Low L xs
-      → length (liveWeights (parityLength d * L) (parityBlocks s m d xs)) ≤ 2 * length (liveWeights (parityLength (suc d) * L) (parityBlocks s m (suc d) xs))
-  half-live d xs h pos long low =
-      let w : ℕ = parityLength d in
-      let c : ℕ = parityCount s m (suc d) in
-      let e₁ : parityLength (suc d) ≡ w + w = omega (arith, pow-suc 2 d) in
-      let e₂ : suc (s - 1 - suc d) ≡ s - 1 - d = omega arith in
-      let e₃ : twice c ≡ parityCount s m d = twice-is c ∙ omega (arith, ap (λ (x : ℕ). m * x) (sym (pow-suc 2 (s - 1 - suc d)) ∙ ap (λ (x : ℕ). 2 ^ x) e₂)) in
-      let e₄ : (w + w) * L ≡ w * L + w * L = add-mul w w L in
-      let r : length (liveWeights (w * L) (chop w (twice c) xs)) ≤ 2 * length (liveWeights (w * L + w * L) (chop (w + w) c xs)) =
-      halves-weights w L c xs low (omega (arith, count-width (suc d) h pos, ap (λ (x : ℕ). c * x) e₁)) in
-      subst₂ (λ (x y : ℕ). length (liveWeights (w * L) (chop w x xs)) ≤ 2 * length (liveWeights (y * L) (chop y c xs))) e₃ (sym e₁)
-      (subst (λ (W : ℕ). length (liveWeights (w * L) (chop w (twice c) xs)) ≤ 2 * length (liveWeights W (chop (w + w) c xs))) (sym e₄) r)
-
   -- the numbers of a stage that is moved to, and what it reads
-  module _ (d : ℕ) (xs vs : List ℕ) (pos : 0 < s) (h : d < s - 1) (long : length xs ≡ m * 2 ^ s) (low : Low L xs) (lv : length vs ≡ 2 ^ s) (activeBits : Bits vs)
+  module _ (d : ℕ) (xs vs : List ℕ) (pos : 0 < s) (h : d < s - 1) (long : length xs ≡ m * 2 ^ s) (low : Low L xs) (lv : length vs ≡ 2 ^ s) (bits : Bits vs)
       (enough : 2 ^ s ≤ length (liveWeights (parityLength d * L) (parityBlocks s m d xs))) (fits : length (liveWeights (parityLength d * L) (parityBlocks s m d xs)) ≤ 2 * (2 ^ s - 1)) where
     size : Sized (parityLength d) L (parityBlocks s m d xs)
-    size = chop-sized (parityLength d) L (parityCount s m d) xs (omega (arith, count-width d (omega arith) pos)) low
+    size = chop-sized (parityLength d) L (parityCount s m d) xs (omega (arith, count-width s m d (omega arith) pos)) low
 
     new : List (List ℕ)
     new = recordAll (parityLength d * L) L vs (parityBlocks s m d xs)
@@ -150,7 +127,7 @@ module _ (s m L : ℕ) where
     unfolding new
     move-fits = record {
       stage = h;
-      long = length-join (parityLength d) L new new-size ∙ ap (λ (x : ℕ). x * parityLength d) new-length ∙ count-width d (omega arith) pos;
+      long = length-join (parityLength d) L new new-size ∙ ap (λ (x : ℕ). x * parityLength d) new-length ∙ count-width s m d (omega arith) pos;
       low = low-join (parityLength d) L new new-size;
       stands = record {
         sized = subst (Sized (parityLength d) L) (sym cut-again) new-size;
@@ -167,23 +144,23 @@ module _ (s m L : ℕ) where
     unfolding new read
     move-reads y l =
         ap₂ (λ (ts : List ℕ) (r : List (List ℕ)). weightOf (suc y) ts (liveWeights (parityLength d * L) r) % 2) (new-indexes pad) cut-again
-        ∙ entries-read (parityLength d) L (even-width d) y 0 vs (parityBlocks s m d xs) activeBits size (omega arith) zero-le (omega arith)
+        ∙ entries-read (parityLength d) L (even-width L d) y 0 vs (parityBlocks s m d xs) bits size (omega arith) zero-le (omega arith)
         ∙ ap (λ (x : ℕ). getD vs x 0) (sub-zero y)
 
     move-rises : Rises xs (blockCells (moveTo s m L d xs vs))
-    move-rises = subst (λ (r : List ℕ). Rises r (join (recordAll (parityLength d * L) L vs (parityBlocks s m d xs)))) (join-chop (parityLength d) (parityCount s m d) xs (long ∙ sym (count-width d (omega arith) pos)))
+    move-rises = subst (λ (r : List ℕ). Rises r (join (recordAll (parityLength d * L) L vs (parityBlocks s m d xs)))) (join-chop (parityLength d) (parityCount s m d) xs (long ∙ sym (count-width s m d (omega arith) pos)))
         (up-join (record-up (parityLength d * L) L vs (parityBlocks s m d xs)))
 
     move-pays : levels (moveTo s m L d xs vs) ≤ sum xs + 2 ^ s
     unfolding new
-    move-pays = omega (arith, sum-join new, record-le (parityLength d * L) L vs (parityBlocks s m d xs), sums-chop (parityLength d) (parityCount s m d) xs (long ∙ sym (count-width d (omega arith) pos)))
+    move-pays = omega (arith, sum-join new, record-le (parityLength d * L) L vs (parityBlocks s m d xs), sums-chop (parityLength d) (parityCount s m d) xs (long ∙ sym (count-width s m d (omega arith) pos)))
 
   -- where a search for a later stage ends
   abbrev LaterLaw : List ℕ → List ℕ → ℕ → Result Sheet → Type 0
   LaterLaw xs vs d (done y) = Fits y × (Rises xs (blockCells y) × (stagesLeft s y < d)) × ((b : ℕ) → b < 2 ^ s → read s m L y b ≡ getD vs b 0) × (levels y + (2 ^ s - 1) * stagesLeft s y ≤ suc (sum xs + (2 ^ s - 1) * d))
   LaterLaw xs vs d noPlace = length (liveWeights (parityLength 0 * L) (parityBlocks s m 0 xs)) < 2 ^ s
 
-  module _ (xs vs : List ℕ) (pos : 0 < s) (long : length xs ≡ m * 2 ^ s) (low : Low L xs) (lv : length vs ≡ 2 ^ s) (activeBits : Bits vs) where
+  module _ (xs vs : List ℕ) (pos : 0 < s) (long : length xs ≡ m * 2 ^ s) (low : Low L xs) (lv : length vs ≡ 2 ^ s) (bits : Bits vs) where
     weaken : (d : ℕ) (r : Result Sheet) → LaterLaw xs vs d r → LaterLaw xs vs (suc d) r
     weaken d (done y) h = (h .0, (h .1 .0, omega (arith, h .1 .1)), h .2, omega (arith, h .3))
     weaken d noPlace h = h
@@ -191,11 +168,11 @@ module _ (s m L : ℕ) where
     later-law : (d : ℕ) → d ≤ s - 1 → length (liveWeights (parityLength d * L) (parityBlocks s m d xs)) < 2 ^ s → LaterLaw xs vs d (later s m L d xs vs)
     later-law zero h l = l
     later-law (suc d) h l = pick-elim (LaterLaw xs vs (suc d)) (decLe (2 ^ s) (length (liveWeights (parityLength d * L) (parityBlocks s m d xs)))) _ _
-        (λ e. let f : length (liveWeights (parityLength d * L) (parityBlocks s m d xs)) ≤ 2 * (2 ^ s - 1) = omega (arith, half-live d xs h pos long low) in (
-          move-fits d xs vs pos h long low lv activeBits e f,
-          (move-rises d xs vs pos h long low lv activeBits e f, omega arith),
-          move-reads d xs vs pos h long low lv activeBits e f,
-          omega (arith, pow-pos s, move-pays d xs vs pos h long low lv activeBits e f),
+        (λ e. let f : length (liveWeights (parityLength d * L) (parityBlocks s m d xs)) ≤ 2 * (2 ^ s - 1) = omega (arith, half-live s m L d xs h pos long low) in (
+          move-fits d xs vs pos h long low lv bits e f,
+          (move-rises d xs vs pos h long low lv bits e f, omega arith),
+          move-reads d xs vs pos h long low lv bits e f,
+          omega (arith, pow-pos s, move-pays d xs vs pos h long low lv bits e f),
         ))
         (λ e. weaken d (later s m L d xs vs) (later-law d (omega arith) (omega arith)))
 
@@ -207,8 +184,8 @@ module _ (s m L : ℕ) where
       omega (
         arith,
         c,
-        sums-chop (parityLength 0) (parityCount s m 0) xs (long ∙ sym (count-width 0 zero-le pos)),
-        ap (λ (x : ℕ). x * L) (count-width 0 zero-le pos),
+        sums-chop (parityLength 0) (parityCount s m 0) xs (long ∙ sym (count-width s m 0 zero-le pos)),
+        ap (λ (x : ℕ). x * L) (count-width s m 0 zero-le pos),
         mul-le-mul-right {m = length (liveWeights W (parityBlocks s m 0 xs))} {n = 2 ^ s - 1} W (omega arith),
       )
 
@@ -269,7 +246,7 @@ module _ (s m L : ℕ) where
         let z : Sized (parityLength d) L bs = h .stands .sized in
         let q : parityBlocks s m d (join bs) ≡ bs = chop-join (parityLength d) L (parityCount s m d) bs z n in
         let r : (y : ℕ) → valueOf (parityLength d * L) (parityBlocks s m d (join bs)) es′ y ≡ valueOf (parityLength d * L) bs es′ y = λ y. ap (λ (c : List (List ℕ)). valueOf (parityLength d * L) c es′ y) q in
-        let e : parityCount s m d * parityLength d ≡ m * 2 ^ s = count-width d (omega (arith, w .stage)) (omega arith) in
+        let e : parityCount s m d * parityLength d ≡ m * 2 ^ s = count-width s m d (omega (arith, w .stage)) (omega arith) in
         record {
           fits = record {
             stage = w .stage;
@@ -300,7 +277,7 @@ module _ (s m L : ℕ) where
         from-stage0-law xs w (R.change k L m i xs) (P.answer-all k L m (m * k) two g ev (le-refl (m * k)) i here xs w)
         (λ e. plain-live k L m (m * k) two g ev (le-refl (m * k)) i here xs w (P.no-place-how k L m (m * k) two g ev (le-refl (m * k)) i here xs w e))
     reply-law (staged d xs es) w = from-staged-law d xs es w (changeWithin (parityLength d * L) L i (parityBlocks s m d xs) es)
-        (in-law (2 ^ s) (parityLength d) L i (parityBlocks s m d xs) es (w .stands) (even-width d) here)
+        (in-law (2 ^ s) (parityLength d) L i (parityBlocks s m d xs) es (w .stands) (even-width L d) here)
 
 -- ---- runs
 

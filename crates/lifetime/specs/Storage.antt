@@ -7,8 +7,8 @@ use native.Mathlib.Omega.{arith}
 use lib.ListN.{length, length-replicate, replicate, take}
 use Rattle.laws.specs.Block.{rises}
 use Rattle.laws.specs.Lists.{low-replicate}
-use Rattle.lifetime.specs.Plain.{flips, keeps, stays}
-use Rattle.lifetime.specs.PlainSheet.{blank}
+use Rattle.laws.specs.PlainMaps.{flips, keeps, stays}
+use Rattle.laws.specs.PlainSheet.{blank}
 use Rattle.rules.specs.Batches.{decode, write}
 use Rattle.rules.specs.Cells.{Low, Rises}
 use Rattle.rules.specs.Search.{Result, done, noPlace}

@@ -6,8 +6,8 @@ use native.Mathlib.Decide.{ℕ-discrete}
 use native.Mathlib.Nat.{add-mul, le-refl, lt-irrefl, mul-pos}
 use native.Mathlib.Omega.{arith}
 use lib.ListN.{replicate}
-use Rattle.lifetime.specs.Plain.{Lawful, Planned, Proper, Update, new, out, own, tally, tally-upd, total, upd-all}
-use Rattle.lifetime.specs.PlainSheet.{Accepted, Run, begin, blank, change-how, more, no-place-how, run-law, sum-states}
+use Rattle.laws.specs.PlainMaps.{Lawful, Planned, Proper, Update, new, out, own, tally, tally-upd, total, upd-all}
+use Rattle.laws.specs.PlainSheet.{Accepted, Run, begin, blank, change-how, more, no-place-how, run-law, sum-states}
 use Rattle.rules.specs.Block.{State, active, broken, empty, full, grown, next}
 use Rattle.rules.specs.Cells.{sum}
 use Rattle.rules.specs.Plain.{HasBit, IsEmpty, change, erase, put, states, weight}

@@ -9,7 +9,7 @@ use native.Mathlib.Omega.{arith}
 use lib.ListN.{getD, length, length-set, set}
 use lib.Seq.{getD-set-other, getD-set-same, set-getD}
 use Rattle.laws.specs.Stage.{Forth, Sized, Used, absent-at, at-absent, closed-indexes, fill-remove, fill-set, forth-closed, forth-index, forth-same, length-raise-live, length-remove, length-set-live, names-gone, names-remove, names-set, raise-live-le, raise-live-weights, raise-sized, remove, same, set-indexes, sums, used-closed, used-index, weight-at, weight-none, weight-remove, weight-set}
-use Rattle.lifetime.specs.Plain.{adds, flips, keeps}
+use Rattle.laws.specs.PlainMaps.{adds, flips, keeps}
 use Rattle.lifetime.specs.Up.{Up, raise-up, up-same}
 use Rattle.rules.specs.Search.{Found, here}
 use Rattle.rules.specs.SearchLaws.{First, first-is, hit, miss, pick-elim}

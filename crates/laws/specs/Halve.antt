@@ -10,10 +10,10 @@ use native.Mathlib.Numerals.{add-one}
 use native.Mathlib.Omega.{arith}
 use lib.ListN.{drop, length, length-drop, take}
 use lib.Seq.{drop-drop, length-take-le, take-add}
 use Rattle.laws.specs.Lists.{low-drop, low-take, sum-append, sum-replicate}
 use Rattle.laws.specs.Live.{chop-snoc, live, live-append, live-full, live-le, live-more, live-none}
-use Rattle.lifetime.specs.Plain.{Planned, Proper, activeBits, bits-few, noteBit, out}
-use Rattle.lifetime.specs.PlainSheet.{Accepted, block-cells}
+use Rattle.laws.specs.PlainMaps.{Planned, Proper, activeBits, bits-few, noteBit, out}
+use Rattle.laws.specs.PlainSheet.{Accepted, block-cells}
 use Rattle.rules.specs.Block.{State, active, broken, cellsOf, empty, full}
 use Rattle.rules.specs.Cells.{Low, block, chop, sum}
 use Rattle.rules.specs.Plain.{IsEmpty, erase, states}
