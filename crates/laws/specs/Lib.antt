@@ -13,3 +13,4 @@ pub mod PlainMaps
 pub mod PlainSheet
 pub mod Halve
 pub mod Parity
+pub mod Calls

@@ -25,7 +25,7 @@ use Rattle.laws.specs.PlainSheet as P
 use Rattle.lifetime.specs.Storage as T
 use Rattle.lifetime.specs.Storage.{Storage}
 use Rattle.lifetime.specs.Batches.{kind-1, sound-fits, fits-sound}
-use Rattle.lifetime.specs.Calls.{Accepted, Refusal, Making, refuses, erases, makes, change-is, change-passes}
+use Rattle.laws.specs.Calls.{Accepted, Refusal, Making, refuses, erases, makes, change-is, change-passes}
 
 -- what a change of bit i that is made does to a sheet
 pub record Changed (r : Settings) (i : ℕ) (xs ys : List ℕ) : Type 0 where

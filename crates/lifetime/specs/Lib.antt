@@ -6,7 +6,6 @@ pub mod Move
 pub mod Staged
 pub mod Storage
 pub mod Batches
-pub mod Calls
 pub mod Change
 pub mod Place
 pub mod Run

@@ -22,7 +22,7 @@ use Rattle.rules.specs.declared.Answer.the-variants.{Done, BadShape, BadLength,
 use Rattle.laws.specs.PlainSheet as P
 use Rattle.lifetime.specs.Storage as T
 use Rattle.lifetime.specs.Tight as E
-use Rattle.lifetime.specs.Calls.{Accepted, Refusal, Making, refuses, erases, makes, change-is, Erasing, refusing, clears, erase-is, erase-passes}
+use Rattle.laws.specs.Calls.{Accepted, Refusal, Making, refuses, erases, makes, change-is, Erasing, refusing, clears, erase-is, erase-passes}
 use Rattle.lifetime.specs.Change.{plain-change, is-plain, staged-change, many, stored, means, back, Clean, below, erase-tells, NoRoom, erase-answered, done-answered, sheet-changed, erased-accepted}
 
 -- one more for an accepted change, none for any other answer

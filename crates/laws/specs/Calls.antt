@@ -106,6 +106,36 @@ read-passes r xs out a l =
 
 pub erase-passes : (r : Settings) (xs : List ℕ) → Genuine r → length xs ≡ r .n → eraseChecks r xs ≡ Pass
 erase-passes r xs g e = then-passes (ask-passes (genuine? r) BadShape g) (ask-passes (ℕ-discrete (length xs) (r .n)) BadLength e)
+
+-- ---- checks 1 and 2 first, and then the rest
+
+-- checks may be grouped
+then-group : (a b c : Check) → andThen (andThen a b) c ≡ andThen a (andThen b c)
+then-group Pass b c = refl
+then-group (Refuse x) b c = refl
+
+-- what is left of a change, and of a reading, once checks 1 and 2 have passed
+abbrev pub changeRest : Settings → List ℕ → ℕ → Check
+changeRest r xs i = andThen (checkBit r i) (andThen (checkLevels r xs) (checkSheet r xs))
+
+abbrev pub readRest : Settings → List ℕ → List ℕ → Check
+readRest r xs out = andThen (checkOutput r out) (andThen (checkLevels r xs) (checkSheet r xs))
+
+pub change-first : (r : Settings) (xs : List ℕ) (i : ℕ) {c : Check} → eraseChecks r xs ≡ c → changeCall r xs i ≡ changing r xs i (andThen c (changeRest r xs i))
+unfolding changeCall
+change-first r xs i {c} e = ap (changing r xs i) (sym (then-group (checkShape r) (checkLength r xs) (changeRest r xs i)) ∙ ap (λ (x : Check). andThen x (changeRest r xs i)) e)
+
+pub read-first : (r : Settings) (xs out : List ℕ) {c : Check} → eraseChecks r xs ≡ c → readCall r xs out ≡ reading r xs out (andThen c (readRest r xs out))
+unfolding readCall
+read-first r xs out {c} e = ap (reading r xs out) (sym (then-group (checkShape r) (checkLength r xs) (readRest r xs out)) ∙ ap (λ (x : Check). andThen x (readRest r xs out)) e)
+
+-- where checks 1 and 2 pass, the record is genuine and the sheet has n cells
+pub size-passed : (r : Settings) (xs : List ℕ) → eraseChecks r xs ≡ Pass → Genuine r × (length xs ≡ r .n)
+size-passed r xs e = go (erase-checks r xs) e
+  where
+    go : {c : Check} → Checked (Genuine r × (length xs ≡ r .n)) c → c ≡ Pass → Genuine r × (length xs ≡ r .n)
+    go (passed p) e = p
+    go (refused a q) e = absurd (let z : _≡_ {A = ℕ} 0 1 = cc in omega arith)
 
 -- ---- calls
 
