@@ -11,4 +11,5 @@ pub mod Batches
 pub mod Accept
 pub mod AcceptLaws
 pub mod Calls
+pub mod Records
 pub mod Numbers

@@ -1,0 +1,109 @@
+-- What the drive program makes of one record (01, "The drive program"). Assumes nothing.
+use mathlib.Core.Path.{_≡_}
+use mathlib.Core.Logic.{_⊎_, inl, inr}
+use mathlib.Core.List.{List, _++_}
+use Prim.Native.Nat.{ℕ, zero, suc, _+_, _*_, _≤_, _<_}
+use native.Mathlib.Decide.{ℕ-discrete, decLe, decLt}
+use lib.ListN.{length, getD, take, drop, replicate}
+use Rattle.rules.specs.Search.{pick}
+use Rattle.rules.specs.Accept.{accept}
+use Rattle.rules.specs.Calls.{ask, andThen, Outcome, eraseCall, changeCall, readCall}
+use Rattle.rules.specs.declared.Settings.{Settings}
+use Rattle.rules.specs.declared.Answer.{Answer}
+use Rattle.rules.specs.declared.Answer.the-variants.{Done, BadShape, BadLength, ShortOutput, BadBit, BadLevel, BadSheet, Erase, BadRecord}
+use Rattle.rules.specs.declared.Check.{Check}
+use Rattle.rules.specs.declared.Check.the-variants.{Pass, Refuse}
+
+-- ---- the bytes of a record
+
+abbrev pub operation : List ℕ → ℕ
+operation rec = getD rec 0 0
+
+abbrev pub kindAsked : List ℕ → ℕ
+kindAsked rec = getD rec 1 0
+
+abbrev pub bitsAsked : List ℕ → ℕ
+bitsAsked rec = getD rec 2 0
+
+abbrev pub topAsked : List ℕ → ℕ
+topAsked rec = getD rec 3 0
+
+-- two bytes, low first
+abbrev pub cellsAsked : List ℕ → ℕ
+cellsAsked rec = getD rec 4 0 + 256 * getD rec 5 0
+
+abbrev pub bitNamed : List ℕ → ℕ
+bitNamed rec = getD rec 6 0
+
+-- ---- BadRecord, before everything else
+
+-- the record is whole, its operation is known and its last byte is 0
+abbrev pub checkForm : List ℕ → Check
+checkForm rec =
+    andThen (ask (ℕ-discrete (length rec) 8) BadRecord)
+    (andThen (ask (decLe 1 (operation rec)) BadRecord) (andThen (ask (decLe (operation rec) 3) BadRecord) (ask (ℕ-discrete (getD rec 7 0) 0) BadRecord)))
+
+-- operations 1 and 3 use no bit
+abbrev pub checkUnused : List ℕ → Check
+checkUnused rec = ask (ℕ-discrete (bitNamed rec) 0) BadRecord
+
+-- operations 2 and 3 have a sheet held, and its settings
+abbrev pub checkHeld : List ℕ → Settings → Check
+checkHeld rec r =
+    andThen (ask (decLt 0 (r .k)) BadRecord)
+    (andThen (ask (ℕ-discrete (kindAsked rec) (r .kind)) BadRecord) (andThen (ask (ℕ-discrete (bitsAsked rec) (r .k)) BadRecord)
+    (andThen (ask (ℕ-discrete (topAsked rec) (r .top)) BadRecord) (ask (ℕ-discrete (cellsAsked rec) (r .n)) BadRecord))))
+
+-- ---- the record's work
+
+-- what the program answers and then holds: the settings of the sheet held, of zeros while there is none, and the cells, the sheet first
+pub record Step : Type 0 where
+  pub answer : Answer
+  pub settings : Settings
+  pub cells : List ℕ
+
+-- a refused record leaves the sheet held as it is
+abbrev pub keep : Settings → List ℕ → Answer → Step
+keep r xs a = record { answer = a; settings = r; cells = xs }
+
+-- the settings held after an erase that answered so
+abbrev pub heldAfter : Settings → Settings → Answer → Settings
+heldAfter new r (Done v) = new
+heldAfter new r BadShape = r
+heldAfter new r BadLength = r
+heldAfter new r ShortOutput = r
+heldAfter new r BadBit = r
+heldAfter new r (BadLevel c) = r
+heldAfter new r BadSheet = r
+heldAfter new r Erase = r
+heldAfter new r BadRecord = r
+
+-- operation 1: new settings are accepted and their sheet is erased
+abbrev pub eraseStep : Settings → Settings → List ℕ → Step
+eraseStep new r xs = record {
+  answer = eraseCall new (take (new .n) xs) .answer;
+  settings = heldAfter new r (eraseCall new (take (new .n) xs) .answer);
+  cells = eraseCall new (take (new .n) xs) .sheet ++ drop (new .n) xs;
+}
+
+-- operation 2: the change of the bit named
+abbrev pub changeStep : Settings → List ℕ → ℕ → Step
+changeStep r xs i = record { answer = changeCall r (take (r .n) xs) i .answer; settings = r; cells = changeCall r (take (r .n) xs) i .sheet ++ drop (r .n) xs }
+
+-- operation 3: a reading into k places
+abbrev pub readStep : Settings → List ℕ → Step
+readStep r xs = keep r xs (readCall r (take (r .n) xs) (replicate (r .k) 0) .answer)
+
+abbrev pub passed : Check → Settings → List ℕ → Step → Step
+passed Pass r xs s = s
+passed (Refuse a) r xs s = keep r xs a
+
+abbrev pub byOperation : ℕ → List ℕ → Settings → List ℕ → Step
+byOperation zero rec r xs = keep r xs BadRecord
+byOperation (suc zero) rec r xs = passed (checkUnused rec) r xs (eraseStep (accept (kindAsked rec) (bitsAsked rec) (topAsked rec) (cellsAsked rec)) r xs)
+byOperation (suc (suc zero)) rec r xs = passed (checkHeld rec r) r xs (changeStep r xs (bitNamed rec))
+byOperation (suc (suc (suc op))) rec r xs = passed (andThen (checkUnused rec) (checkHeld rec r)) r xs (readStep r xs)
+
+-- one record, with settings r held and the cells xs
+unfoldable pub recordStep : List ℕ → Settings → List ℕ → Step
+recordStep rec r xs = passed (checkForm rec) r xs (byOperation (operation rec) rec r xs)
