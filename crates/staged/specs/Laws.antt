@@ -1,16 +1,16 @@
--- Laws of the digits of an index block as a loop meets them, and of cells filled one by one. Assumes nothing.
+-- Laws of index blocks, of cells filled one by one, of a block as a part of the cells, of the stage and of the later stage. Assumes nothing.
 use mathlib.Core.List.{List, [], _++_, _∷_, append-assoc, append-nil}
 use mathlib.Core.Path.{_∙_, _≡_, ap, refl, subst, sym}
 use Prim.Native.Nat.{_%_, _*_, _+_, _-_, _/_, _<_, _^_, _≤_, suc, zero, ℕ}
-use native.Mathlib.Nat.{div-add-mod', div-lt-iff-lt-mul, le-of-suc-le-suc, mod-lt, not-suc-le-zero, pow-le-pow-right, pow-suc, pow-zero}
+use native.Mathlib.Nat.{div-add-mod', div-lt-iff-lt-mul, le-of-suc-le-suc, mod-lt, mul-le-mul-right, not-suc-le-zero, pow-le-pow-right, pow-suc, pow-zero}
 use native.Mathlib.Numerals.{add-one}
 use native.Mathlib.Omega.{arith}
 use lib.ListN.{drop, getD, length, length-append, length-replicate, replicate, replicate-append-replicate, set, take}
-use lib.Seq.{drop-length, length-take-le, take-suc, take-suc-set}
+use lib.Seq.{drop-drop, drop-length, length-take-le, take-suc, take-suc-set}
 use Rattle.laws.specs.Index.{digits-low, digits-num, length-digits, num-digits, num-full, num-lt}
 use Rattle.laws.specs.Lists.{low-append, low-replicate, low-take}
 use Rattle.rules.specs.Batches.{digits, entryOf, number}
-use Rattle.rules.specs.Cells.{Low, same?}
+use Rattle.rules.specs.Cells.{Low, block, same?, store}
 use Rattle.rules.specs.SearchLaws.{pick-no, pick-yes}
 use Rattle.rules.specs.Stage.{closed, index}
 
@@ -120,3 +120,22 @@ fill-turn b i v h e =
     ∙ take-suc-set b i v h
     ∙ ap (λ (r : List ℕ). r ++ (v ∷ [])) e
     ∙ replicate-append-replicate i 1 v
+
+-- ---- a block as a part of the cells, from j times w to j times w + w
+
+pub block-fits : (w j n : ℕ) → j < n → j * w + w ≤ n * w
+block-fits w j n h = omega (arith, mul-le-mul-right {m = suc j} {n = n} w h)
+
+pub part-block : (w : ℕ) (xs : List ℕ) (j : ℕ) → take (j * w + w - j * w) (drop (j * w) xs) ≡ block w xs j
+unfolding block
+part-block w xs j =
+    let q : j * w + w - j * w ≡ w = omega arith in
+    ap (λ (n : ℕ). take n (drop (j * w) xs)) q
+
+-- the part put back as b is the cells with block j set to b
+pub part-store : (w : ℕ) (xs : List ℕ) (j : ℕ) (b : List ℕ) → take (j * w) xs ++ (b ++ drop (j * w + w - j * w) (drop (j * w) xs)) ≡ store w xs j b
+unfolding store
+part-store w xs j b =
+    let q : j * w + w - j * w ≡ w = omega arith in
+    ap (λ (n : ℕ). take (j * w) xs ++ (b ++ drop n (drop (j * w) xs))) q
+    ∙ ap (λ (r : List ℕ). take (j * w) xs ++ (b ++ r)) (drop-drop w (j * w) xs)
