@@ -5,7 +5,8 @@ ghost use lib.ListN.{length, replicate};
 ghost use Rattle.rules.specs.Cells.{Low, block, store, chop};
 ghost use Rattle.rules.specs.Stage.{raise, liveWeights};
 ghost use Rattle.rules.specs.Batches.{digits, entryOf};
-ghost use Rattle.staged.specs.Meaning.{asEntry};
+ghost use Rattle.staged.specs.Meaning.{asEntry, asFound, stageLeft};
+use block::all_zero;
 use block::sum_of;
 
 // What an index block says: its number, or that it is full.
@@ -100,4 +101,27 @@ pub fn count_live(cells: &[u8], len: usize, count: usize, full: usize) -> usize
         j += 1;
     }
     live
+}
+
+// The stage that a sheet is in: how many stages are left at the highest batch with a cell above 0, or stage 0.
+pub enum Stage {
+    Left(usize),
+    Zero,
+}
+
+// The stage, from the batches: `index` is the cells from the first batch on, of `batches` batches of `batch` cells each.
+pub fn stage_of(index: &[u8], batch: usize, batches: usize) -> Stage
+    requires { ⌜ batches * batch ≤ length (now index) ⌝ }
+    ensures { λ r. ⌜ asFound r ≡ stageLeft batch batches (now (index .entry)) ⌝ }
+{
+    let mut left: usize = 0;
+    while left < batches {
+        let a = (batches - 1 - left) * batch;
+        let e = a + batch;
+        if !all_zero(&index[a..e]) {
+            return Stage::Left(left);
+        }
+        left += 1;
+    }
+    Stage::Zero
 }
