@@ -1,18 +1,22 @@
--- Laws of the digits of an index block as a loop meets them, and of cells filled one by one. Assumes nothing.
+-- Laws of index blocks, of cells filled one by one, of a block as a part of the cells, of the stage and of the later stage. Assumes nothing.
+use mathlib.Core.Bool.{true, false}
 use mathlib.Core.List.{List, [], _++_, _∷_, append-assoc, append-nil}
-use mathlib.Core.Path.{_∙_, _≡_, ap, refl, subst, sym}
+use mathlib.Core.Path.{_∙_, _≡_, ap, ap₂, refl, subst, sym}
 use Prim.Native.Nat.{_%_, _*_, _+_, _-_, _/_, _<_, _^_, _≤_, suc, zero, ℕ}
-use native.Mathlib.Nat.{div-add-mod', div-lt-iff-lt-mul, le-of-suc-le-suc, mod-lt, not-suc-le-zero, pow-le-pow-right, pow-suc, pow-zero}
+use native.Mathlib.Decide.{decLt}
+use native.Mathlib.Nat.{div-add-mod', div-lt-iff-lt-mul, le-of-suc-le-suc, mod-lt, mul-le-mul-right, not-suc-le-zero, pow-le-pow-right, pow-suc, pow-zero}
 use native.Mathlib.Numerals.{add-one}
 use native.Mathlib.Omega.{arith}
 use lib.ListN.{drop, getD, length, length-append, length-replicate, replicate, replicate-append-replicate, set, take}
-use lib.Seq.{drop-length, length-take-le, take-suc, take-suc-set}
+use lib.Seq.{drop-drop, drop-length, length-take-le, take-suc, take-suc-set}
 use Rattle.laws.specs.Index.{digits-low, digits-num, length-digits, num-digits, num-full, num-lt}
-use Rattle.laws.specs.Lists.{low-append, low-replicate, low-take}
-use Rattle.rules.specs.Batches.{digits, entryOf, number}
-use Rattle.rules.specs.Cells.{Low, same?}
-use Rattle.rules.specs.SearchLaws.{pick-no, pick-yes}
+use Rattle.laws.specs.Lists.{low-append, low-replicate, low-take, sum-replicate}
+use Rattle.rules.specs.Batches.{batch, batchCells, digits, entryOf, number}
+use Rattle.rules.specs.Cells.{Low, block, same?, store, sum}
+use Rattle.rules.specs.Search.{Found, first, pick}
+use Rattle.rules.specs.SearchLaws.{First, first-eq, first-is, first-unique, pick-elim, pick-no, pick-yes}
 use Rattle.rules.specs.Stage.{closed, index}
+use Rattle.staged.specs.Meaning.{stageLeft}
 
 -- ---- the number of an index block
 
@@ -120,3 +124,60 @@ fill-turn b i v h e =
     ∙ take-suc-set b i v h
     ∙ ap (λ (r : List ℕ). r ++ (v ∷ [])) e
     ∙ replicate-append-replicate i 1 v
+
+-- ---- a block as a part of the cells, from j times w to j times w + w
+
+pub block-fits : (w j n : ℕ) → j < n → j * w + w ≤ n * w
+block-fits w j n h = omega (arith, mul-le-mul-right {m = suc j} {n = n} w h)
+
+pub part-block : (w : ℕ) (xs : List ℕ) (j : ℕ) → take (j * w + w - j * w) (drop (j * w) xs) ≡ block w xs j
+unfolding block
+part-block w xs j =
+    let q : j * w + w - j * w ≡ w = omega arith in
+    ap (λ (n : ℕ). take n (drop (j * w) xs)) q
+
+-- the part put back as b is the cells with block j set to b
+pub part-store : (w : ℕ) (xs : List ℕ) (j : ℕ) (b : List ℕ) → take (j * w) xs ++ (b ++ drop (j * w + w - j * w) (drop (j * w) xs)) ≡ store w xs j b
+unfolding store
+part-store w xs j b =
+    let q : j * w + w - j * w ≡ w = omega arith in
+    ap (λ (n : ℕ). take (j * w) xs ++ (b ++ drop n (drop (j * w) xs))) q
+    ∙ ap (λ (r : List ℕ). take (j * w) xs ++ (b ++ r)) (drop-drop w (j * w) xs)
+
+-- ---- the stage
+
+-- cells whose sum is 0 are all 0
+zero-cells : (b : List ℕ) → sum b ≡ 0 → b ≡ replicate (length b) 0
+zero-cells [] e = refl
+zero-cells (x ∷ b) e = ap₂ (λ (y : ℕ) (r : List ℕ). y ∷ r) (omega arith) (zero-cells b (omega arith))
+
+-- what a look for a cell above 0 tells of the sum
+pub zero-sum : (b : List ℕ) → pick (same? b (replicate (length b) 0)) true false ≡ true → sum b ≡ 0
+zero-sum b =
+    pick-elim (λ t. t ≡ true → sum b ≡ 0) (same? b (replicate (length b) 0)) true false
+    (λ e h. let z : sum b ≡ sum (replicate (length b) 0) = ap sum e in omega (arith, sum-replicate (length b) 0))
+    (λ n h. let z : _≡_ {A = ℕ} 0 1 = cc in absurd (omega arith))
+
+pub some-sum : (b : List ℕ) → pick (same? b (replicate (length b) 0)) true false ≡ false → 0 < sum b
+some-sum b =
+    pick-elim (λ t. t ≡ false → 0 < sum b) (same? b (replicate (length b) 0)) true false
+    (λ e h. let z : _≡_ {A = ℕ} 0 1 = cc in absurd (omega arith))
+    (λ n h. go (decLt 0 (sum b)) n)
+  where
+    go : Dec (0 < sum b) → ¬ (b ≡ replicate (length b) 0) → 0 < sum b
+    go (yes l) n = l
+    go (no l) n = absurd (n (zero-cells b (omega arith)))
+
+-- whoever shows what an answer means has the stage
+pub stage-is : (w n : ℕ) (xs : List ℕ) {f : Found} → First (λ d. 0 < sum (block w xs (n - 1 - d))) n f → f ≡ stageLeft w n xs
+stage-is w n xs h = sym (first-eq (λ d. decLt 0 (sum (block w xs (n - 1 - d)))) n h)
+
+-- it is the stage of the rules, where the cells are those from the first batch on
+pub stage-rules : (s m w : ℕ) (f : List ℕ) → stageLeft (batchCells s w) (s - 1) (drop (m * 2 ^ s) f) ≡ first (λ d. decLt 0 (sum (batch s m w f d))) (s - 1)
+unfolding batch
+stage-rules s m w f =
+    first-unique
+    (λ d l h. let e : s - 1 - 1 - d ≡ s - 2 - d = omega arith in subst (λ (x : ℕ). 0 < sum (block (batchCells s w) (drop (m * 2 ^ s) f) x)) e h)
+    (λ d l h. let e : s - 2 - d ≡ s - 1 - 1 - d = omega arith in subst (λ (x : ℕ). 0 < sum (block (batchCells s w) (drop (m * 2 ^ s) f) x)) e h)
+    (first-is (λ d. decLt 0 (sum (block (batchCells s w) (drop (m * 2 ^ s) f) (s - 1 - 1 - d)))) (s - 1))
+    (first-is (λ d. decLt 0 (sum (batch s m w f d))) (s - 1))

@@ -2,9 +2,12 @@
 ghost use mathlib.Core.Path.{_≡_};
 ghost use Prim.Native.Nat.{suc, _+_, _-_, _*_, _^_, _≤_, _<_};
 ghost use lib.ListN.{length, replicate};
-ghost use Rattle.rules.specs.Cells.{Low};
+ghost use Rattle.rules.specs.Cells.{Low, block, store, chop};
+ghost use Rattle.rules.specs.Stage.{raise, liveWeights};
 ghost use Rattle.rules.specs.Batches.{digits, entryOf};
-ghost use Rattle.staged.specs.Meaning.{asEntry};
+ghost use Rattle.staged.specs.Meaning.{asEntry, asFound, stageLeft};
+use block::all_zero;
+use block::sum_of;
 
 // What an index block says: its number, or that it is full.
 pub enum Index {
@@ -56,4 +59,69 @@ pub fn fill(b: &mut [u8], level: u8)
         b[i] = level;
         i += 1;
     }
+}
+
+// A parity block raised by one: its lowest-numbered cell below the top level is.
+pub fn raise_one(b: &mut [u8], top: u8)
+    ensures { λ _. ⌜ now (b .exit) ≡ raise top (now (b .entry)) ⌝ }
+{
+    let mut i: usize = 0;
+    while i < b.len() {
+        if b[i] < top {
+            b[i] += 1;
+            return;
+        }
+        i += 1;
+    }
+}
+
+// Parity block j of `len` cells raised by one: the block is lent on.
+pub fn raise_parity(cells: &mut [u8], len: usize, j: usize, top: u8)
+    requires { ⌜ j * len + len ≤ length (now cells) ⌝ }
+    ensures { λ _. ⌜ now (cells .exit) ≡ store len (now (cells .entry)) j (raise top (block len (now (cells .entry)) j)) ⌝ }
+{
+    let a = j * len;
+    let e = a + len;
+    raise_one(&mut cells[a..e], top);
+}
+
+// How many of the first `count` blocks of `len` cells are live: a block is full if its weight is `full`.
+pub fn count_live(cells: &[u8], len: usize, count: usize, full: usize) -> usize
+    requires { ⌜ (count * len ≤ length (now cells)) × (1 ≤ len) × (len ≤ 65536) × (count ≤ 65536) ⌝ }
+    ensures { λ r. ⌜ r ≡ length (liveWeights full (chop len count (now (cells .entry)))) ⌝ }
+{
+    let mut live: usize = 0;
+    let mut j: usize = 0;
+    while j < count {
+        let a = j * len;
+        let e = a + len;
+        if sum_of(&cells[a..e]) != full {
+            live += 1;
+        }
+        j += 1;
+    }
+    live
+}
+
+// The stage that a sheet is in: how many stages are left at the highest batch with a cell above 0, or stage 0.
+pub enum Stage {
+    Left(usize),
+    Zero,
+}
+
+// The stage, from the batches: `index` is the cells from the first batch on, of `batches` batches of `batch` cells each.
+pub fn stage_of(index: &[u8], batch: usize, batches: usize) -> Stage
+    requires { ⌜ batches * batch ≤ length (now index) ⌝ }
+    ensures { λ r. ⌜ asFound r ≡ stageLeft batch batches (now (index .entry)) ⌝ }
+{
+    let mut left: usize = 0;
+    while left < batches {
+        let a = (batches - 1 - left) * batch;
+        let e = a + batch;
+        if !all_zero(&index[a..e]) {
+            return Stage::Left(left);
+        }
+        left += 1;
+    }
+    Stage::Zero
 }
