@@ -7,7 +7,7 @@ use native.Mathlib.Omega.{arith}
 use Rattle.laws.specs.Lists.{low-all, low-at}
 use lib.ListN.{length, getD, replicate}
 use Rattle.rules.specs.Search.{pick, Found, at, nowhere, first, Result, done, noPlace}
-use Rattle.rules.specs.SearchLaws.{pick-yes, First, hit, miss, first-is, first-eq}
+use Rattle.rules.specs.SearchLaws.{pick-yes, pick-no, First, hit, miss, first-is, first-eq}
 use Rattle.rules.specs.Cells.{sum, Low, firstAbove}
 use Rattle.rules.specs.Accept.{Genuine, genuine?, guarantee}
 use Rattle.rules.specs.Calls.{Sound, sound?, changeSheet, ask, andThen, levelCheck, checkShape, checkLength, checkOutput, checkBit, checkLevels, checkSheet, eraseChecks, readChecks, changeChecks, Outcome, erasing, eraseCall, changed, changing, changeCall, Reading, reading, readCall}
@@ -83,10 +83,21 @@ change-checks r xs i = weaker (λ p. (accepted-from r xs (p .0) (p .1 .0) (p .1 
     (then-is (ask-is (genuine? r) BadShape tt) (then-is (ask-is (ℕ-discrete (length xs) (r .n)) BadLength tt)
     (then-is (ask-is (decLt i (r .k)) BadBit tt) (then-is (level-is (r .top) xs) (ask-is (sound? r xs) BadSheet tt)))))
 
--- checks that all pass, from what they ask for
-ask-passes : {A : Type 0} (d : Dec A) (a : Answer) → A → ask d a ≡ Pass
+-- a check answers by whether what it asks for holds
+pub ask-fails : {A : Type 0} (d : Dec A) (a : Answer) → ¬ A → ask d a ≡ Refuse a
+ask-fails d a h = pick-no d Pass (Refuse a) h
+
+pub ask-passes : {A : Type 0} (d : Dec A) (a : Answer) → A → ask d a ≡ Pass
 ask-passes d a h = pick-yes d Pass (Refuse a) h
 
+-- a check that refuses ends the call, one that passes goes on
+pub then-ends : {c : Check} {a : Answer} (d : Check) → c ≡ Refuse a → andThen c d ≡ Refuse a
+then-ends d e = ap (λ (x : Check). andThen x d) e
+
+pub then-goes : {c : Check} (d : Check) → c ≡ Pass → andThen c d ≡ d
+then-goes d e = ap (λ (x : Check). andThen x d) e
+
+-- checks that all pass, from what they ask for
 then-passes : {c d : Check} → c ≡ Pass → d ≡ Pass → andThen c d ≡ Pass
 then-passes {c} {d} p q = ap (λ (x : Check). andThen x d) p ∙ q
 
@@ -120,6 +131,11 @@ changeRest r xs i = andThen (checkBit r i) (andThen (checkLevels r xs) (checkShe
 
 abbrev pub readRest : Settings → List ℕ → List ℕ → Check
 readRest r xs out = andThen (checkOutput r out) (andThen (checkLevels r xs) (checkSheet r xs))
+
+-- and so each call goes by what they answer
+pub erase-first : (r : Settings) (xs : List ℕ) {c : Check} → eraseChecks r xs ≡ c → eraseCall r xs ≡ erasing r xs c
+unfolding eraseCall
+erase-first r xs e = ap (erasing r xs) e
 
 pub change-first : (r : Settings) (xs : List ℕ) (i : ℕ) {c : Check} → eraseChecks r xs ≡ c → changeCall r xs i ≡ changing r xs i (andThen c (changeRest r xs i))
 unfolding changeCall

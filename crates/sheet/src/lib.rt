@@ -1,0 +1,35 @@
+// The library: erase, read and change a sheet of accepted settings. Every call answers for any settings, levels and bit. Assumes nothing.
+use rules::Answer;
+use rules::Check;
+use rules::Settings;
+ghost use mathlib.Core.Path.{_≡_};
+ghost use Prim.Native.Nat.{_+_, _*_, _≤_, _<_};
+ghost use native.Mathlib.Decide.{ℕ-discrete};
+ghost use lib.ListN.{length};
+ghost use Rattle.rules.specs.Calls.{ask, andThen, checkShape, eraseCall};
+ghost use Rattle.rules.specs.declared.Answer.the-variants.{BadLength};
+
+// Checks 1 and 2: the record is one that acceptance gives, and the sheet has its n cells.
+fn check_size(settings: Settings, cells: usize) -> Check
+    ensures { λ r. ⌜ r ≡ andThen (checkShape settings) (ask (ℕ-discrete cells (settings .n)) BadLength) ⌝ }
+{
+    if !settings.genuine() {
+        return Check::Refuse(Answer::BadShape);
+    }
+    if cells != settings.n {
+        return Check::Refuse(Answer::BadLength);
+    }
+    Check::Pass
+}
+
+// Erase: all n cells are set to 0, and the guarantee is answered.
+pub fn erase(settings: Settings, sheet: &mut [u8]) -> Answer
+    ensures { λ r. ⌜ r ≡ eraseCall settings (now (sheet .entry)) .answer ⌝ }
+    ensures { λ r. ⌜ now (sheet .exit) ≡ eraseCall settings (now (sheet .entry)) .sheet ⌝ }
+{
+    if let Check::Refuse(answer) = check_size(settings, sheet.len()) {
+        return answer;
+    }
+    staged::fill(sheet, 0);
+    Answer::Done(settings.guarantee())
+}
