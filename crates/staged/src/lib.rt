@@ -4,8 +4,9 @@ ghost use Prim.Native.Nat.{suc, _+_, _-_, _*_, _^_, _≤_, _<_};
 ghost use lib.ListN.{length, replicate};
 ghost use Rattle.rules.specs.Cells.{Low, block, store, chop};
 ghost use Rattle.rules.specs.Stage.{raise, liveWeights};
+ghost use Rattle.rules.specs.Staged.{parityLength};
 ghost use Rattle.rules.specs.Batches.{digits, entryOf};
-ghost use Rattle.staged.specs.Meaning.{asEntry, asFound, stageLeft};
+ghost use Rattle.staged.specs.Meaning.{asEntry, asFound, stageLeft, asLater, laterFrom};
 use block::all_zero;
 use block::sum_of;
 
@@ -124,4 +125,26 @@ pub fn stage_of(index: &[u8], batch: usize, batches: usize) -> Stage
         left += 1;
     }
     Stage::Zero
+}
+
+// A later stage with room, told by how many stages are left there, or nowhere.
+pub enum Later {
+    Left(usize),
+    Nowhere,
+}
+
+// The first later stage in which at least k parity blocks are live: blocks half as long are tried each time.
+pub fn later_stage(cells: &[u8], left: usize, len: usize, count: usize, k: usize, top: u8) -> Later
+    requires { ⌜ (len ≡ parityLength left) × (count * len ≤ length (now cells)) × (len ≤ 65536) × (count * len ≤ 65536) ⌝ }
+    ensures { λ r. ⌜ asLater r ≡ laterFrom k top count left (now (cells .entry)) ⌝ }
+{
+    if len < 4 {
+        return Later::Nowhere;
+    }
+    let half = len / 2;
+    let blocks = 2 * count;
+    if count_live(cells, half, blocks, half * top as usize) >= k {
+        return Later::Left(left - 1);
+    }
+    later_stage(cells, left - 1, half, blocks, k, top)
 }
