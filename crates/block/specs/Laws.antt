@@ -10,7 +10,7 @@ use borrow.Author.Tests.{eq-eqb, ne-eqb}
 use lib.Dec.{eqb}
 use lib.ListN.{length, getD, take, drop, replicate, length-drop, drop-of-length-le}
 use lib.Seq.{take-suc, take-all, drop-drop}
-use Rattle.laws.specs.Lists.{sum-part}
+use Rattle.laws.specs.Lists.{low-all, low-at, sum-part}
 use Rattle.rules.specs.Calls.{levelCheck}
 use Rattle.rules.specs.Cells.{Low, block, firstAbove, same?, store, sum}
 use Rattle.rules.specs.Search.{Found, nowhere, pick}
@@ -58,18 +58,6 @@ low-greatest L (x ∷ s) h = omega (arith, low-greatest L s (h .1))
 
 -- ---- the first cell above L
 
--- no level is above L, cell by cell
-pub low-at : (L : ℕ) (s : List ℕ) → Low L s → (c : ℕ) → getD s c 0 ≤ L
-low-at L [] h zero = omega arith
-low-at L [] h (suc c) = omega arith
-low-at L (x ∷ s) h zero = h .0
-low-at L (x ∷ s) h (suc c) = low-at L s (h .1) c
-
--- and from the cells back
-low-cells : (L : ℕ) (s : List ℕ) → ((c : ℕ) → c < length s → getD s c 0 ≤ L) → Low L s
-low-cells L [] h = tt
-low-cells L (x ∷ s) h = (h 0 (omega arith), low-cells L s (λ c l. h (suc c) (omega arith)))
-
 -- a search that found nothing
 none-there : {P : ℕ → Type 0} {m : ℕ} → First P m nowhere → (c : ℕ) → c < m → ¬ (P c)
 none-there (miss b) = b
@@ -88,7 +76,7 @@ pub fine-low : (L : ℕ) (s : List ℕ) → firstAbove L s ≡ nowhere → Low L
 unfolding firstAbove
 fine-low L s e =
     let f : First (λ c. L < getD s c 0) (length s) nowhere = subst (First (λ c. L < getD s c 0) (length s)) e (first-is (λ c. decLt L (getD s c 0)) (length s)) in
-    low-cells L s (λ c l. let n : ¬ (L < getD s c 0) = none-there f c l in omega arith)
+    low-all L s (λ c l. let n : ¬ (L < getD s c 0) = none-there f c l in omega arith)
 
 -- what the check of the levels makes of the place found
 pub check-is : (r : Level) {f : Found} → asFound r ≡ f → checkOf r ≡ levelCheck f
