@@ -11,5 +11,6 @@ pub mod Batches
 pub mod Accept
 pub mod AcceptLaws
 pub mod Calls
+pub mod Promises
 pub mod Records
 pub mod Numbers

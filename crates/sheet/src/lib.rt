@@ -6,7 +6,8 @@ ghost use mathlib.Core.Path.{_≡_};
 ghost use Prim.Native.Nat.{_+_, _*_, _≤_, _<_};
 ghost use native.Mathlib.Decide.{ℕ-discrete};
 ghost use lib.ListN.{length};
-ghost use Rattle.rules.specs.Calls.{ask, andThen, checkShape, eraseCall};
+ghost use Rattle.rules.specs.Calls.{ask, andThen, checkShape};
+ghost use Rattle.rules.specs.Promises.{ErasePromise};
 ghost use Rattle.rules.specs.declared.Answer.the-variants.{BadLength};
 
 // Checks 1 and 2: the record is one that acceptance gives, and the sheet has its n cells.
@@ -24,8 +25,7 @@ fn check_size(settings: Settings, cells: usize) -> Check
 
 // Erase: all n cells are set to 0, and the guarantee is answered.
 pub fn erase(settings: Settings, sheet: &mut [u8]) -> Answer
-    ensures { λ r. ⌜ r ≡ eraseCall settings (now (sheet .entry)) .answer ⌝ }
-    ensures { λ r. ⌜ now (sheet .exit) ≡ eraseCall settings (now (sheet .entry)) .sheet ⌝ }
+    ensures { λ r. ⌜ ErasePromise settings (now (sheet .entry)) r (now (sheet .exit)) ⌝ }
 {
     if let Check::Refuse(answer) = check_size(settings, sheet.len()) {
         return answer;

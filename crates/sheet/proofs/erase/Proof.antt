@@ -1,10 +1,11 @@
 -- Erase answers by checks 1 and 2, and then sets every cell to 0.
-use mathlib.Core.Path.{sym, ap, _∙_}
+use mathlib.Core.List.{List}
+use mathlib.Core.Path.{sym, ap, ap₂, _∙_}
 use Prim.Native.Nat.{ℕ}
 use lib.ListN.{replicate}
 use borrow.Author.Needs.{needs}
 use Rattle.rules.specs.AcceptLaws.{promised-is}
-use Rattle.rules.specs.Calls.{Outcome}
+use Rattle.rules.specs.Promises.{outcome}
 use Rattle.rules.specs.declared.Answer.the-variants.{Done}
 use Rattle.laws.specs.Calls.{erase-first, size-passed}
 use Rattle.sheet.proofs.erase.Statement.{statement}
@@ -19,8 +20,7 @@ enum-known-answer c = search needs
 returns : tie.Need-returns
 returns c =
     let b = c .before in
-    let e = erase-first _ _ (sym (b .before .before .check-size .ensures) ∙ b .answer .given .1) in
-    (sym (ap (λ (o : Outcome). o .answer) e), sym (ap (λ (o : Outcome). o .sheet) e))
+    sym (erase-first _ _ (sym (b .before .before .check-size .ensures) ∙ b .answer .given .1))
 
 enum-told : tie.Need-enum-told
 enum-told c = search needs
@@ -40,9 +40,9 @@ returns-2 c =
     let t = f .before .before in
     let p = sym (t .before .before .check-size .ensures) ∙ t .enum-told .given .1 in
     let a = t .before .before .before .before .args in
-    let e = erase-first (a .settings) (a .sheet .now) p in
     let g = size-passed (a .settings) (a .sheet .now) p in
-    (ap Done (c .guarantee .ensures ∙ promised-is _ (g .0)) ∙ sym (ap (λ (o : Outcome). o .answer) e), f .fill .ensures ∙ ap (λ (x : ℕ). replicate x 0) (g .1) ∙ sym (ap (λ (o : Outcome). o .sheet) e))
+    ap₂ (λ (v : ℕ) (ys : List ℕ). outcome (Done v) ys) (c .guarantee .ensures ∙ promised-is _ (g .0)) (f .fill .ensures ∙ ap (λ (n : ℕ). replicate n 0) (g .1))
+    ∙ sym (erase-first (a .settings) (a .sheet .now) p)
 
 pub erase-spec : {M : Type 1} → statement M
 erase-spec =
