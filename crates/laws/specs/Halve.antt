@@ -1,12 +1,10 @@
 -- Halving the blocks at most doubles how many are not full; and after a plain Erase fewer than k are not full. So the index blocks suffice.
 -- Assumes nothing.
 use mathlib.Core.List.{List, [], _++_, _∷_}
-use mathlib.Core.Logic.{_≢_}
 use mathlib.Core.Path.{_∙_, _≡_, ap, refl, subst, sym}
 use Prim.Native.Nat.{_%_, _*_, _+_, _<_, _≤_, suc, suc-le-suc, zero, zero-le, ℕ}
 use native.Mathlib.Decide.{ℕ-discrete}
-use native.Mathlib.Nat.{le-refl, le-trans, zero-mul}
-use native.Mathlib.Numerals.{add-one}
+use native.Mathlib.Nat.{le-refl, le-trans}
 use native.Mathlib.Omega.{arith}
 use lib.ListN.{drop, length, length-drop, take}
 use lib.Seq.{drop-drop, length-take-le, take-add}
@@ -18,7 +16,6 @@ use Rattle.rules.specs.Block.{State, active, broken, cellsOf, empty, full}
 use Rattle.rules.specs.Cells.{Low, block, chop, sum}
 use Rattle.rules.specs.Plain.{IsEmpty, erase, states}
 use Rattle.rules.specs.Search.{here}
-use Rattle.rules.specs.SearchLaws.{pick-no, pick-yes}
 use Rattle.rules.specs.Stage.{liveWeights}
 
 -- ---- halves

@@ -80,20 +80,22 @@ entry-number L b h =
 pub rest-lt : (L w u : ℕ) → u < suc L ^ suc w → u / suc L < suc L ^ w
 rest-lt L w u h = div-lt-iff-lt-mul {k = suc L} {x = u} {y = suc L ^ w} (omega arith) .1 (subst (λ (x : ℕ). u < x) (pow-suc (suc L) w) h)
 
--- the last digit apart
+-- the last digit written behind the others: the same number
+number-back : (L w u : ℕ) → u < suc L ^ suc w → number (suc L) (digits (suc L) w (u / suc L) ++ (u % suc L ∷ [])) ≡ u
+number-back L w u h =
+    number-snoc (suc L) (digits (suc L) w (u / suc L)) (u % suc L)
+    ∙ ap (λ (x : ℕ). x * suc L + u % suc L) (num-digits (suc L) w (u / suc L) (omega arith) (rest-lt L w u h))
+    ∙ div-add-mod' u (suc L)
+
+-- so the last digit stands apart
 digits-snoc : (L w u : ℕ) → u < suc L ^ suc w → digits (suc L) (suc w) u ≡ digits (suc L) w (u / suc L) ++ (u % suc L ∷ [])
 digits-snoc L w u h =
     let b : List ℕ = digits (suc L) w (u / suc L) in
-    let q : u / suc L < suc L ^ w = rest-lt L w u h in
     let r : u % suc L < suc L = mod-lt u (omega arith) in
-    let n : number (suc L) (b ++ (u % suc L ∷ [])) ≡ u =
-    number-snoc (suc L) b (u % suc L)
-    ∙ ap (λ (x : ℕ). x * suc L + u % suc L) (num-digits (suc L) w (u / suc L) (omega arith) q)
-    ∙ div-add-mod' u (suc L) in
     let e : length (b ++ (u % suc L ∷ [])) ≡ suc w = omega (arith, length-append b (u % suc L ∷ []), length-digits (suc L) w (u / suc L)) in
-    sym (ap (digits (suc L) (suc w)) n)
+    sym (ap (digits (suc L) (suc w)) (number-back L w u h))
     ∙ ap (λ (x : ℕ). digits (suc L) x (number (suc L) (b ++ (u % suc L ∷ [])))) (sym e)
-    ∙ digits-num L (b ++ (u % suc L ∷ [])) (low-append L b (u % suc L ∷ []) (digits-low L w (u / suc L) q) (le-of-suc-le-suc r, tt))
+    ∙ digits-num L (b ++ (u % suc L ∷ [])) (low-append L b (u % suc L ∷ []) (digits-low L w (u / suc L) (rest-lt L w u h)) (le-of-suc-le-suc r, tt))
 
 -- cell j set, and the cells past it
 drop-set : (b : List ℕ) (j v : ℕ) → j < length b → drop j (set b j v) ≡ v ∷ drop (suc j) b
@@ -109,7 +111,7 @@ digits-turn L j u b h l =
     ∙ append-assoc (digits (suc L) j (u / suc L)) (u % suc L ∷ []) (drop (suc j) b)
     ∙ ap (λ (r : List ℕ). digits (suc L) j (u / suc L) ++ r) (sym (drop-set b j (u % suc L) h))
 
--- no digit is left to write at first, and none in the end
+-- at first every digit is still to be written, in the end none
 pub digits-first : (q u : ℕ) (b : List ℕ) → digits q (length b) u ≡ digits q (length b) u ++ drop (length b) b
 digits-first q u b = sym (ap (λ (r : List ℕ). digits q (length b) u ++ r) (drop-length b) ∙ append-nil (digits q (length b) u))
 
@@ -247,5 +249,5 @@ module _ (k L c d len : ℕ) (xs : List ℕ) (e : len ≡ parityLength d) (h : 4
   pub later-here : k ≤ length (liveWeights (len / 2 * L) (chop (len / 2) (2 * c) xs)) → laterFrom k L c d xs ≡ at (d - 1)
   later-here l = later-turn ∙ pick-yes (decLe k (length (liveWeights (len / 2 * L) (chop (len / 2) (2 * c) xs)))) _ _ l
 
-  pub later-on : length (liveWeights (len / 2 * L) (chop (len / 2) (2 * c) xs)) < k → laterFrom k L c d xs ≡ laterFrom k L (2 * c) (d - 1) xs
-  later-on l = later-turn ∙ pick-no (decLe k (length (liveWeights (len / 2 * L) (chop (len / 2) (2 * c) xs)))) _ _ (λ g. omega arith)
+  pub later-on : {r : Found} → length (liveWeights (len / 2 * L) (chop (len / 2) (2 * c) xs)) < k → r ≡ laterFrom k L (2 * c) (d - 1) xs → r ≡ laterFrom k L c d xs
+  later-on l q = q ∙ sym (later-turn ∙ pick-no (decLe k (length (liveWeights (len / 2 * L) (chop (len / 2) (2 * c) xs)))) _ _ (λ g. omega arith))

@@ -1,11 +1,9 @@
 -- `staged::later_stage` meets its contract: the length of the blocks falls, and each return is one turn of the search. Assumes nothing.
-use mathlib.Core.Path.{_≡_, _∙_, sym}
-use Prim.Native.Nat.{ℕ, _<_, _≤_, _*_, _/_}
+use mathlib.Core.Path.{sym}
+use Prim.Native.Nat.{ℕ, _<_, _≤_, _/_}
 use native.Mathlib.Nat.{mul-le-mul}
 use native.Mathlib.Omega.{arith}
-use borrow.Author.Needs.{needs}
-use Rattle.rules.specs.Staged.{parityLength}
-use Rattle.staged.specs.Laws.{Halved, halved, later-here, later-on, later-stop}
+use Rattle.staged.specs.Laws.{halved, later-here, later-on, later-stop}
 use borrow.Fn.Kinds.{In}
 use borrow.Fn.PlainCycle.{Measures, is, falls, and}
 use Rattle.staged.proofs.later_stage.Reads as later-stage
@@ -130,8 +128,7 @@ later-stage-returns-3 : (t : ℕ) → later-stage-lts.Need-returns-3 (
 ) (later-stage-at t) later-stage.Post
 later-stage-returns-3 t c =
     let a = c .before .before .before .before .before .args in
-    c .later-stage .ensures
-    ∙ sym (later-on (a .k) (a .top) (a .count) (a .left) (a .len) (a .cells .now) (omega arith) (c .before .before .before .if1 .left) (omega arith))
+    later-on (a .k) (a .top) (a .count) (a .left) (a .len) (a .cells .now) (omega arith) (c .before .before .before .if1 .left) (omega arith) (c .later-stage .ensures)
 
 pub +later-stage-spec : {M : Type 1} → statement M
 +later-stage-spec = close μ-later-stage λ t. later-stage-lts.spec (

@@ -21,7 +21,7 @@ Inv-loop cells len count full live₀ j₀ live j = (j ≤ count) × (live ≡ l
 abbrev μ-loop : tie.MeasureT-loop
 μ-loop cells len count full live₀ j₀ live j = count - j
 
--- src/lib.rt:95:5
+-- src/lib.rt:96:5
 loop-holds : tie.Need-loop-holds Inv-loop μ-loop
 loop-holds c = search needs
 
@@ -31,43 +31,43 @@ inside c =
     let a = c .before .before .before .args in
     omega (arith, block-fits (a .len) (c .before .loop .j) (a .count) (c .loop-test .taken))
 
--- src/lib.rt:96:17
+-- src/lib.rt:97:17
 mul-a : tie.Need-mul-a Inv-loop μ-loop
 mul-a c = omega (arith, inside c)
 
--- src/lib.rt:97:17
+-- src/lib.rt:98:17
 add-e : tie.Need-add-e Inv-loop μ-loop
 add-e c = omega (arith, inside c)
 
--- src/lib.rt:98:19
+-- src/lib.rt:99:19
 sub-sum-of : tie.Need-sub-sum-of Inv-loop μ-loop
 sub-sum-of c = search needs
 
--- src/lib.rt:98:19
+-- src/lib.rt:99:19
 part-sum-of-start : tie.Need-part-sum-of-start Inv-loop μ-loop
 part-sum-of-start c = search needs
 
--- src/lib.rt:98:19
+-- src/lib.rt:99:19
 part-sum-of-end : tie.Need-part-sum-of-end Inv-loop μ-loop
 part-sum-of-end c = omega (arith, inside c)
 
--- src/lib.rt:98:12
+-- src/lib.rt:99:12
 sum-of-requires : tie.Need-sum-of-requires Inv-loop μ-loop
 sum-of-requires c κs = simp (length-take, length-drop) (omega arith)
 
--- src/lib.rt:99:13
+-- src/lib.rt:100:13
 add-live : tie.Need-add-live Inv-loop μ-loop
 add-live c = search needs
 
--- src/lib.rt:101:9
+-- src/lib.rt:102:9
 add-j : tie.Need-add-j Inv-loop μ-loop
 add-j c = search needs
 
--- src/lib.rt:95:5
+-- src/lib.rt:96:5
 loop-less : tie.Need-loop-less Inv-loop μ-loop
 loop-less c = search needs
 
--- src/lib.rt:95:5
+-- src/lib.rt:96:5
 loop-again : tie.Need-loop-again Inv-loop μ-loop
 loop-again c =
     let o = c .before .before .before in
@@ -79,7 +79,7 @@ loop-again c =
     (λ t. omega (arith, count-full (a .full) (a .len) j (a .cells .now) (omega arith)))
     (c .if1 .came)
 
--- src/lib.rt:89:1
+-- src/lib.rt:90:1
 returns : tie.Need-returns Inv-loop μ-loop
 returns c =
     let l = c .before .loop in
