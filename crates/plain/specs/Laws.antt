@@ -1,0 +1,396 @@
+-- Laws of a scan: what one more block adds to what is known, and what a scan says of a reading and of a change. Assumes nothing.
+use mathlib.Core.Bool.{Bool, true, false}
+use mathlib.Core.List.{List, [], _∷_, _++_, append-nil}
+use mathlib.Core.Logic.{_≢_, ⊎-elim}
+use mathlib.Core.Path.{_≡_, _∙_, ap, ap₂, refl, subst, sym}
+use Prim.Native.Nat.{ℕ, zero, suc, _+_, _-_, _*_, _%_, _≤_, _<_}
+use native.Mathlib.Decide.{ℕ-discrete, decLt}
+use native.Mathlib.Nat.{eq-or-lt-of-le, le-of-suc-le-suc, le-refl, mul-le-mul-right, mul-pos, not-suc-le-zero}
+use native.Mathlib.Numerals.{add-one}
+use native.Mathlib.Omega.{arith}
+use lib.ListN.{length, getD, getD-replicate, take, drop, replicate, set}
+use lib.Seq.{append-snoc, drop-cons, getD-set-other, getD-set-same, getD-take, length-take-le, set-at, take-suc}
+use Rattle.laws.specs.Block.{Means, cycle-full, cycle-zero, length-cycle, state-means, sum-cycle}
+use Rattle.laws.specs.Cut.{length-block, store-sum}
+use Rattle.laws.specs.Distinct.{Below, Distinct, pigeon-absent}
+use Rattle.laws.specs.Lists.{low-drop, low-take, sum-append}
+use Rattle.laws.specs.Stage.{absent-at}
+use Rattle.rules.specs.Block.{State, active, broken, cellsOf, cycle, empty, full, grown, next, stateOf}
+use Rattle.rules.specs.Cells.{Low, block, store, sum, tabulate}
+use Rattle.rules.specs.Plain.{AllOnCycle, BlocksOk, HasBit, IsEmpty, NoRepeat, OnCycle, SameBit, bitOf, carryOut, change, erase, hasBit?, isEmpty?, plan, planFrom, put, read, states, valueAt, weight}
+use Rattle.rules.specs.Search.{at, done, first, noPlace, nowhere, pick}
+use Rattle.rules.specs.SearchLaws.{First, first-eq, hit, miss, pick-no, pick-yes}
+use Rattle.rules.specs.Stage.{Absent}
+use Rattle.plain.specs.Meaning.{Free, Held, Place, PlaceOf, Scanned, free, held, none, parities, placeIn, some, step}
+use Rattle.plain.specs.Meaning as M
+use Rattle.plain.specs.declared.Scan.{Scan}
+use Rattle.plain.specs.declared.Found.the-variants.{At, Nowhere}
+
+-- ---- one more place
+
+-- what holds of every place below j, and of j, holds of every place below j + 1
+all-more : {P : ℕ → Type 0} {j : ℕ} → ((y : ℕ) → y < j → P y) → P j → (y : ℕ) → y < suc j → P y
+all-more {P} a h y l = ⊎-elim (λ e. subst P (sym e) h) (λ q. a y q) (eq-or-lt-of-le (le-of-suc-le-suc l))
+
+-- the first place stays where the next is none
+place-skip : {P : ℕ → Type 0} {j m e : ℕ} → Place P j m e → ¬ (P j) → Place P (suc j) m e
+place-skip (some x l h b) n = some x (omega arith) h b
+place-skip (none b) n = none (all-more b n)
+
+-- a first place that was found stays
+place-kept : {P : ℕ → Type 0} {j m e : ℕ} → Place P j m e → e < m → Place P (suc j) m e
+place-kept (some x l h b) q = some x (omega arith) h b
+place-kept (none b) q = absurd (omega arith)
+
+-- where none was found and the next is one, it is the first
+place-new : {P : ℕ → Type 0} {j m e : ℕ} → Place P j m e → j < m → ¬ (e < m) → P j → Place P (suc j) m j
+place-new (some x l h b) q n p = absurd (n (omega arith))
+place-new {j = j} (none b) q n p = some j (le-refl (suc j)) p b
+
+-- a bit's block and weight stay where the next block has another bit or none
+held-skip : {st : ℕ → State} {i j m p v : ℕ} → ¬ (HasBit i (st j)) → Held st i j m p v → Held st i (suc j) m p v
+held-skip n (held x v l e b) = held x v (omega arith) e b
+held-skip n (free b) = free (all-more b n)
+
+-- ---- a list with one more number
+
+absent-snoc : (i b : ℕ) (xs : List ℕ) → Absent i xs → i ≢ b → Absent i (xs ++ (b ∷ []))
+absent-snoc i b [] o d = (d, tt)
+absent-snoc i b (x ∷ xs) o d = (o .0, absent-snoc i b xs (o .1) d)
+
+absent-front : (i b : ℕ) (xs : List ℕ) → Absent i (xs ++ (b ∷ [])) → Absent i xs
+absent-front i b [] o = tt
+absent-front i b (x ∷ xs) o = (o .0, absent-front i b xs (o .1))
+
+absent-last : (i b : ℕ) (xs : List ℕ) → Absent i (xs ++ (b ∷ [])) → i ≢ b
+absent-last i b [] o = o .0
+absent-last i b (x ∷ xs) o = absent-last i b xs (o .1)
+
+distinct-snoc : (b : ℕ) (xs : List ℕ) → Distinct xs → Absent b xs → Distinct (xs ++ (b ∷ []))
+distinct-snoc b [] d o = (tt, tt)
+distinct-snoc b (x ∷ xs) d o = (absent-snoc x b xs (d .0) (λ e. o .0 (sym e)), distinct-snoc b xs (d .1) (o .1))
+
+below-snoc : (k b : ℕ) (xs : List ℕ) → Below k xs → b < k → Below k (xs ++ (b ∷ []))
+below-snoc k b [] h l = (l, tt)
+below-snoc k b (x ∷ xs) h l = (h .0, below-snoc k b xs (h .1) l)
+
+-- what the search for a repeat knows: one more number that isn't b; b itself
+pub absent-more : (b x : ℕ) (seen : List ℕ) → x < length seen → Absent b (take x seen) → ¬ (getD seen x 0 ≡ b) → Absent b (take (x + 1) seen)
+absent-more b x seen l o d =
+    subst (λ (n : ℕ). Absent b (take n seen)) (sym (add-one x))
+    (subst (Absent b) (sym (take-suc seen x 0 l)) (absent-snoc b (getD seen x 0) (take x seen) o (λ e. d (sym e))))
+
+pub not-absent : (b x n : ℕ) (seen : List ℕ) → x < n → n ≤ length seen → getD seen x 0 ≡ b → ¬ (Absent b (take n seen))
+not-absent b x n seen l h e o =
+    let q : x < length (take n seen) = omega (arith, length-take-le n seen h) in
+    absent-at b x (take n seen) o q (sym (getD-take n seen x 0 l ∙ e))
+
+-- fewer than k distinct bits were seen where one of the k bits wasn't
+pub seen-few : (k b n : ℕ) (seen : List ℕ) → b < k → n ≤ length seen → Absent b (take n seen) → Distinct (take n seen) → Below k (take n seen) → n < k
+seen-few k b n seen l h o d w = omega (arith, length-take-le n seen h, pigeon-absent k b (take n seen) l o d w)
+
+-- ---- two blocks with one bit
+
+-- two blocks with bit i have one bit
+same-bit : (i : ℕ) (s t : State) → HasBit i s → HasBit i t → SameBit s t
+same-bit i empty t h q = h
+same-bit i full t h q = h
+same-bit i broken t h q = h
+same-bit i (active j v) t h q = subst (λ (x : ℕ). HasBit x t) h q
+
+-- two blocks with one bit have some bit i
+bit-same : (s t : State) → SameBit s t → (i : ℕ) × HasBit i s × HasBit i t
+bit-same empty t h = absurd h
+bit-same full t h = absurd h
+bit-same broken t h = absurd h
+bit-same (active i v) t h = (i, refl, h)
+
+-- an active block has its bit
+to-bit : {i v : ℕ} {s : State} → s ≡ active i v → HasBit i s
+to-bit {i} e = subst (λ (s : State). HasBit i s) (sym e) refl
+
+-- ---- what is known of the blocks below j
+
+-- the bits of the active blocks below j, each once
+pub record Seen (k : ℕ) (st : ℕ → State) (j : ℕ) (bits : List ℕ) : Type 0 where
+  pub distinct : Distinct bits
+  pub below : Below k bits
+  pub told : (i : ℕ) → Absent i bits → Free st j i
+  pub free : (i : ℕ) → Free st j i → Absent i bits
+
+-- the blocks below j keep the rules; the first empty one, each bit's block and weight, and the bits seen
+pub record Known (k m : ℕ) (st : ℕ → State) (j e : ℕ) (places weights bits : List ℕ) : Type 0 where
+  pub cycles : AllOnCycle j st
+  pub apart : NoRepeat j st
+  pub first : Place (λ y. IsEmpty (st y)) j m e
+  pub held : (i : ℕ) → i < k → Held st i j m (getD places i 0) (getD weights i 0)
+  pub seen : Seen k st j bits
+
+-- nothing below 0
+pub known-none : (k m : ℕ) (st : ℕ → State) → k ≤ 64 → Known k m st 0 m (replicate 64 m) (replicate 64 0) []
+known-none k m st h = record {
+  cycles = λ j l. absurd (not-suc-le-zero l);
+  apart = λ j l. absurd (not-suc-le-zero l);
+  first = none (λ y l. absurd (not-suc-le-zero l));
+  held = λ i l.
+      let q : i < 64 = omega arith in
+      subst (λ (p : ℕ). Held st i 0 m p (getD (replicate 64 0) i 0)) (sym (getD-replicate 64 i m 0 q))
+      (subst (λ (v : ℕ). Held st i 0 m m v) (sym (getD-replicate 64 i 0 0 q)) (free (λ y z. absurd (not-suc-le-zero z))));
+  seen = record { distinct = tt; below = tt; told = λ i o y l. absurd (not-suc-le-zero l); free = λ i f. tt };
+}
+
+module _ (k m : ℕ) (st : ℕ → State) (j e : ℕ) (places weights bits : List ℕ) (g : Known k m st j e places weights bits) where
+  -- one more block with no bit
+  known-idle : (e′ : ℕ) → OnCycle (st j) → ((i : ℕ) → ¬ (HasBit i (st j))) → Place (λ y. IsEmpty (st y)) (suc j) m e′ → Known k m st (suc j) e′ places weights bits
+  known-idle e′ o n p = record {
+    cycles = all-more (g .cycles) o;
+    apart = all-more (g .apart) (λ x l s. let r = bit-same (st x) (st j) s in n (r .0) (r .2));
+    first = p;
+    held = λ i l. held-skip (n i) (g .held i l);
+    seen = record {
+      distinct = g .seen .distinct;
+      below = g .seen .below;
+      told = λ i a. all-more (g .seen .told i a) (n i);
+      free = λ i f. g .seen .free i (λ y l. f y (omega arith));
+    };
+  }
+
+  -- a full block
+  pub known-full : st j ≡ full → Known k m st (j + 1) e places weights bits
+  known-full q = subst (λ (x : ℕ). Known k m st x e places weights bits) (sym (add-one j))
+      (known-idle e (subst OnCycle (sym q) tt) (λ i h. subst (HasBit i) q h) (place-skip (g .first) (λ h. subst IsEmpty q h)))
+
+  -- an empty block after the first one
+  pub known-empty : st j ≡ empty → e < m → Known k m st (j + 1) e places weights bits
+  known-empty q l = subst (λ (x : ℕ). Known k m st x e places weights bits) (sym (add-one j))
+      (known-idle e (subst OnCycle (sym q) tt) (λ i h. subst (HasBit i) q h) (place-kept (g .first) l))
+
+  -- the first empty block
+  pub known-first : st j ≡ empty → ¬ (e < m) → j < m → Known k m st (j + 1) j places weights bits
+  known-first q n l = subst (λ (x : ℕ). Known k m st x j places weights bits) (sym (add-one j))
+      (known-idle j (subst OnCycle (sym q) tt) (λ i h. subst (HasBit i) q h) (place-new (g .first) l n (subst IsEmpty (sym q) tt)))
+
+  -- an active block whose bit no earlier one holds
+  module _ (b v : ℕ) (q : st j ≡ active b v) where
+    held-more : b < length places → b < length weights → Free st j b → (i : ℕ) → i < k → Dec (i ≡ b)
+        → Held st i (suc j) m (getD (set places b j) i 0) (getD (set weights b v) i 0)
+    held-more lp lw f i l (yes c) =
+        let h : Held st b (suc j) m j v = held j v (le-refl (suc j)) q f in
+        subst (λ (x : ℕ). Held st x (suc j) m (getD (set places b j) x 0) (getD (set weights b v) x 0)) (sym c)
+        (subst (λ (p : ℕ). Held st b (suc j) m p (getD (set weights b v) b 0)) (sym (getD-set-same places b j 0 lp))
+        (subst (λ (w : ℕ). Held st b (suc j) m j w) (sym (getD-set-same weights b v 0 lw)) h))
+    held-more lp lw f i l (no d) =
+        let n : ¬ (HasBit i (st j)) = λ h. d (subst (HasBit i) q h) in
+        subst (λ (p : ℕ). Held st i (suc j) m p (getD (set weights b v) i 0)) (sym (getD-set-other places b i j 0 d))
+        (subst (λ (w : ℕ). Held st i (suc j) m (getD places i 0) w) (sym (getD-set-other weights b i v 0 d)) (held-skip n (g .held i l)))
+
+    seen-more : b < k → Absent b bits → Seen k st (suc j) (bits ++ (b ∷ []))
+    seen-more l o = record {
+      distinct = distinct-snoc b bits (g .seen .distinct) o;
+      below = below-snoc k b bits (g .seen .below) l;
+      told = λ i a. all-more (g .seen .told i (absent-front i b bits a)) (λ h. absent-last i b bits a (subst (HasBit i) q h));
+      free = λ i f. absent-snoc i b bits (g .seen .free i (λ y z. f y (omega arith))) (λ c. f j (le-refl (suc j)) (subst (HasBit i) (sym q) c));
+    }
+
+    pub known-active : b < k → b < length places → b < length weights → Absent b bits
+        → Known k m st (j + 1) e (set places b j) (set weights b v) (bits ++ (b ∷ []))
+    known-active l lp lw o = subst (λ (x : ℕ). Known k m st x e (set places b j) (set weights b v) (bits ++ (b ∷ []))) (sym (add-one j)) record {
+      cycles = all-more (g .cycles) (subst OnCycle (sym q) tt);
+      apart = all-more (g .apart) (λ x z s.
+          let r = bit-same (st x) (st j) s in
+          g .seen .told b o x z (subst (λ (i : ℕ). HasBit i (st x)) (subst (HasBit (r .0)) q (r .2)) (r .1)));
+      first = place-skip (g .first) (λ h. subst IsEmpty q h);
+      held = λ i z. held-more lp lw (g .seen .told b o) i z (ℕ-discrete i b);
+      seen = seen-more l o;
+    }
+
+    -- an active block whose bit an earlier one holds
+    known-repeat : ¬ (Absent b bits) → ¬ ((x : ℕ) → x < j → ¬ (SameBit (st x) (st j)))
+    known-repeat o a = o (g .seen .free b (λ y l h. a y l (same-bit b (st y) (st j) h (to-bit q))))
+
+-- ---- what a scan says
+
+true-false : {A : Type 0} → true ≡ false → A
+true-false e = let z : _≡_ {A = ℕ} 0 1 = cc in absurd (omega arith)
+
+-- a scan that refuses blocks that break the rules says what it should
+refused-is : (k L m : ℕ) (xs : List ℕ) (r : Scan) → r .sound ≡ false → ¬ (BlocksOk k L m xs) → Scanned k L m xs r
+refused-is k L m xs r f n = record {
+  sound = λ q. true-false (sym q ∙ f);
+  broken = λ q. n;
+  empty = λ q. true-false (sym q ∙ f);
+  bits = λ q. true-false (sym q ∙ f);
+}
+
+module _ (k L m : ℕ) (xs : List ℕ) (j e : ℕ) (places weights bits : List ℕ) (g : Known k m (states k L xs) j e places weights bits) where
+  -- all blocks keep the rules
+  pub scan-sound : ¬ (j < m) → j ≤ m → Scanned k L m xs record { sound = true; empty = e; places = places; weights = weights }
+  scan-sound n l =
+      let q : j ≡ m = omega arith in
+      let h : Known k m (states k L xs) m e places weights bits = subst (λ (x : ℕ). Known k m (states k L xs) x e places weights bits) q g in
+      record { sound = λ r. (h .cycles, h .apart); broken = λ r. true-false r; empty = λ r. h .first; bits = λ r. h .held }
+
+  -- a block is on no cycle
+  pub scan-broken : (r : Scan) → r .sound ≡ false → j < m → states k L xs j ≡ broken → Scanned k L m xs r
+  scan-broken r f l q = refused-is k L m xs r f (λ h. subst OnCycle q (h .0 j l))
+
+  -- a block repeats the bit of an earlier one
+  pub scan-repeat : (r : Scan) → r .sound ≡ false → j < m → (b v : ℕ) → states k L xs j ≡ active b v → ¬ (Absent b bits) → Scanned k L m xs r
+  scan-repeat r f l b v q o = refused-is k L m xs r f (λ h. known-repeat k m (states k L xs) j e places weights bits g b v q o (h .1 j l))
+
+-- ---- the state of a block, from its part of the cells
+
+-- block j lies within the cells
+pub block-end : (k m j n : ℕ) → m * k ≤ n → j < m → j * k + k ≤ n
+block-end k m j n h l = omega (arith, mul-le-mul-right {m = suc j} {n = m} k l)
+
+-- the part from j * k to j * k + k is block j
+pub part-block : (k : ℕ) (xs : List ℕ) (j : ℕ) → take (j * k + k - j * k) (drop (j * k) xs) ≡ block k xs j
+unfolding block
+part-block k xs j = let q : j * k + k - j * k ≡ k = omega arith in ap (λ (n : ℕ). take n (drop (j * k) xs)) q
+
+-- what a look at that part says of block j
+pub part-state : (k L : ℕ) (xs : List ℕ) (j : ℕ) (s : State) → j * k + k ≤ length xs
+    → s ≡ stateOf (length (take (j * k + k - j * k) (drop (j * k) xs))) L (take (j * k + k - j * k) (drop (j * k) xs)) → states k L xs j ≡ s
+unfolding states
+part-state k L xs j s h e =
+    sym (e ∙ ap (λ (b : List ℕ). stateOf (length b) L b) (part-block k xs j) ∙ ap (λ (n : ℕ). stateOf n L (block k xs j)) (length-block k xs j h))
+
+-- it has k cells, none above L
+pub part-length : (k : ℕ) (xs : List ℕ) (j : ℕ) → j * k + k ≤ length xs → length (take (j * k + k - j * k) (drop (j * k) xs)) ≡ k
+part-length k xs j h = ap length (part-block k xs j) ∙ length-block k xs j h
+
+pub part-low : (k L : ℕ) (xs : List ℕ) (j : ℕ) → Low L xs → Low L (take (j * k + k - j * k) (drop (j * k) xs))
+part-low k L xs j h = low-take L (j * k + k - j * k) (drop (j * k) xs) (low-drop L (j * k) xs h)
+
+-- the bit of an active block is one of the k bits
+pub active-below : (k L : ℕ) (xs : List ℕ) (j b v : ℕ) → 0 < k → 0 < L → states k L xs j ≡ active b v → b < k
+unfolding states
+active-below k L xs j b v h g e = let q : Means k L (active b v) (block k xs j) = subst (λ (s : State). Means k L s (block k xs j)) e (state-means k L h g (block k xs j)) in q .0
+
+-- ---- the place of a change, and a reading
+
+-- the cells of a block after its next step
+grown-cells : (k L i v : ℕ) → i ≤ k → (d : Dec (suc v ≡ k * L)) → cellsOf k L (grown d i v) ≡ cycle k L i (v + 1)
+grown-cells k L i v l (yes e) = sym (cycle-full k L i l) ∙ ap (cycle k L i) (sym e ∙ sym (add-one v))
+grown-cells k L i v l (no e) = ap (cycle k L i) (sym (add-one v))
+
+module _ (k L m i : ℕ) (xs : List ℕ) (h : 0 < k) (g : 0 < L) (b : i < k) where
+  -- what block j's state says of its cells
+  block-means : (j : ℕ) (s : State) → states k L xs j ≡ s → Means k L s (block k xs j)
+  unfolding states
+  block-means j s e = subst (λ (t : State). Means k L t (block k xs j)) e (state-means k L h g (block k xs j))
+
+  own-block : {p : ℕ} → First (λ y. HasBit i (states k L xs y)) m (at p) → (v : ℕ) → states k L xs p ≡ active i v → change k L m i xs ≡ done (store k xs p (cycle k L i (v + 1)))
+  unfolding change plan
+  own-block {p} f v e =
+      let st = states k L xs in
+      let d = ℕ-discrete (suc v) (k * L) in
+      ap (λ r. carryOut k L xs (planFrom (k * L) st i r (first (λ y. isEmpty? (st y)) m))) (first-eq (λ y. hasBit? i (st y)) m f)
+      ∙ ap (λ (s : State). done (store k xs p (cellsOf k L (next (k * L) s)))) e
+      ∙ ap (λ (c : List ℕ). done (store k xs p c)) (grown-cells k L i v (omega arith) d)
+
+  new-block : {p : ℕ} → First (λ y. HasBit i (states k L xs y)) m nowhere → First (λ y. IsEmpty (states k L xs y)) m (at p) → change k L m i xs ≡ done (store k xs p (cycle k L i 1))
+  unfolding change plan
+  new-block f q =
+      let st = states k L xs in
+      ap (λ r. carryOut k L xs (planFrom (k * L) st i r (first (λ y. isEmpty? (st y)) m))) (first-eq (λ y. hasBit? i (st y)) m f)
+      ∙ ap (λ r. carryOut k L xs (planFrom (k * L) st i nowhere r)) (first-eq (λ y. isEmpty? (st y)) m q)
+
+  no-block : First (λ y. HasBit i (states k L xs y)) m nowhere → First (λ y. IsEmpty (states k L xs y)) m nowhere → change k L m i xs ≡ noPlace
+  unfolding change plan
+  no-block f q =
+      let st = states k L xs in
+      ap (λ r. carryOut k L xs (planFrom (k * L) st i r (first (λ y. isEmpty? (st y)) m))) (first-eq (λ y. hasBit? i (st y)) m f)
+      ∙ ap (λ r. carryOut k L xs (planFrom (k * L) st i nowhere r)) (first-eq (λ y. isEmpty? (st y)) m q)
+
+  empty-cells : (j : ℕ) → IsEmpty (states k L xs j) → block k xs j ≡ cycle k L i 0
+  empty-cells j n = block-means j empty (empty-view (states k L xs j) n) ∙ sym (cycle-zero k L i (omega arith))
+    where
+      empty-view : (s : State) → IsEmpty s → s ≡ empty
+      empty-view empty n = refl
+      empty-view full n = absurd n
+      empty-view broken n = absurd n
+      empty-view (active j v) n = absurd n
+
+  place-is : {p v e : ℕ} → Held (states k L xs) i m m p v → Place (λ y. IsEmpty (states k L xs y)) m m e
+      → PlaceOf k L m i xs (pick (decLt p m) (At p v) (pick (decLt e m) (At e 0) Nowhere))
+  place-is {e = e} (held x v l q f) w =
+      let c : Means k L (active i v) (block k xs x) = block-means x (active i v) q in
+      subst (PlaceOf k L m i xs) (sym (pick-yes (decLt x m) (At x v) (pick (decLt e m) (At e 0) Nowhere) l))
+      (step x v l (c .2) (c .3) (own-block (hit x l (to-bit q) f) v q))
+  place-is (free f) (some x l n z) =
+      let no-own : ¬ (m < m) = λ q. omega arith in
+      subst (PlaceOf k L m i xs) (sym (pick-no (decLt m m) (At m 0) (pick (decLt x m) (At x 0) Nowhere) no-own ∙ pick-yes (decLt x m) (At x 0) Nowhere l))
+      (step x 0 l (mul-pos h g) (empty-cells x n) (new-block (miss f) (hit x l n z)))
+  place-is (free f) (none z) =
+      let no-own : ¬ (m < m) = λ q. omega arith in
+      subst (PlaceOf k L m i xs) (sym (pick-no (decLt m m) (At m 0) (pick (decLt m m) (At m 0) Nowhere) no-own ∙ pick-no (decLt m m) (At m 0) Nowhere no-own))
+      (M.erase (no-block (miss f) (miss z)))
+
+  read-is : {p v : ℕ} → Held (states k L xs) i m m p v → read k L m xs i ≡ v % 2
+  unfolding read bitOf
+  read-is (held x v l q f) =
+      let st = states k L xs in
+      ap (valueAt (k * L) st) (first-eq (λ y. hasBit? i (st y)) m (hit x l (to-bit q) f)) ∙ ap (λ (s : State). weight (k * L) s % 2) q
+  read-is (free f) = let st = states k L xs in ap (valueAt (k * L) st) (first-eq (λ y. hasBit? i (st y)) m (miss f))
+
+-- the place that a scan gives: the bit's block, or else the first empty one, or else none
+pub place-own : (s : Scan) (i m : ℕ) → getD (s .places) i 0 < m → placeIn s i m ≡ At (getD (s .places) i 0) (getD (s .weights) i 0)
+place-own s i m h = pick-yes (decLt (getD (s .places) i 0) m) (At (getD (s .places) i 0) (getD (s .weights) i 0)) (pick (decLt (s .empty) m) (At (s .empty) 0) Nowhere) h
+
+pub place-empty : (s : Scan) (i m : ℕ) → ¬ (getD (s .places) i 0 < m) → s .empty < m → placeIn s i m ≡ At (s .empty) 0
+place-empty s i m n h =
+    pick-no (decLt (getD (s .places) i 0) m) (At (getD (s .places) i 0) (getD (s .weights) i 0)) (pick (decLt (s .empty) m) (At (s .empty) 0) Nowhere) n
+    ∙ pick-yes (decLt (s .empty) m) (At (s .empty) 0) Nowhere h
+
+pub place-none : (s : Scan) (i m : ℕ) → ¬ (getD (s .places) i 0 < m) → ¬ (s .empty < m) → placeIn s i m ≡ Nowhere
+place-none s i m n h =
+    pick-no (decLt (getD (s .places) i 0) m) (At (getD (s .places) i 0) (getD (s .weights) i 0)) (pick (decLt (s .empty) m) (At (s .empty) 0) Nowhere) n
+    ∙ pick-no (decLt (s .empty) m) (At (s .empty) 0) Nowhere h
+
+-- the place that a scan gives is the place of the change
+pub scanned-place : (k L m i : ℕ) (xs : List ℕ) (s : Scan) → 2 ≤ k → 1 ≤ L → m * k ≤ length xs → i < k → Scanned k L m xs s → s .sound ≡ true → PlaceOf k L m i xs (placeIn s i m)
+scanned-place k L m i xs s h g l b c e = place-is k L m i xs (omega arith) g b (c .bits e i b) (c .empty e)
+
+-- the parity of the weight that a scan gives is the reading
+pub scanned-read : (k L m i : ℕ) (xs : List ℕ) (s : Scan) → 2 ≤ k → 1 ≤ L → i < k → Scanned k L m xs s → s .sound ≡ true → read k L m xs i ≡ getD (s .weights) i 0 % 2
+scanned-read k L m i xs s h g b c e = read-is k L m i xs (omega arith) g b (c .bits e i b)
+
+-- one step raises one level
+pub step-raises : (k L m i j v : ℕ) (xs : List ℕ) → j < m → m * k ≤ length xs → v < k * L → i < k → block k xs j ≡ cycle k L i v
+    → sum (store k xs j (cycle k L i (v + 1))) ≡ suc (sum xs)
+step-raises k L m i j v xs l h q b e =
+    let le : i ≤ k = omega arith in
+    omega (
+      arith,
+      store-sum k xs j (block-end k m j (length xs) h l) (cycle k L i (v + 1)) (length-cycle k L i le (v + 1)),
+      ap sum e,
+      sum-cycle k L i le v (omega arith),
+      sum-cycle k L i le (v + 1) (omega arith),
+    )
+
+-- ---- the values of the bits, one by one
+
+tabulate-more : (n : ℕ) (f : ℕ → ℕ) → tabulate (suc n) f ≡ tabulate n f ++ (f n ∷ [])
+tabulate-more zero f = refl
+tabulate-more (suc n) f = ap {B = List ℕ} (λ r. f 0 ∷ r) (tabulate-more n (λ j. f (suc j)))
+
+length-tabulate : (n : ℕ) (f : ℕ → ℕ) → length (tabulate n f) ≡ n
+length-tabulate zero f = refl
+length-tabulate (suc n) f = ap suc (length-tabulate n (λ j. f (suc j)))
+
+-- one more value in the sum
+pub parities-sum : (i : ℕ) (ws : List ℕ) → sum (parities (i + 1) ws) ≡ sum (parities i ws) + getD ws i 0 % 2
+parities-sum i ws =
+    ap (λ (n : ℕ). sum (parities n ws)) (add-one i) ∙ ap sum (tabulate-more i (λ j. getD ws j 0 % 2)) ∙ sum-append (parities i ws) (getD ws i 0 % 2 ∷ []) ∙ omega arith
+
+-- one more value at the front of the output
+pub parities-set : (i : ℕ) (ws out : List ℕ) → i < length out → set (parities i ws ++ drop i out) i (getD ws i 0 % 2) ≡ parities (i + 1) ws ++ drop (i + 1) out
+parities-set i ws out l =
+    let f : ℕ → ℕ = λ j. getD ws j 0 % 2 in
+    ap (λ (r : List ℕ). set (tabulate i f ++ r) i (f i)) (drop-cons out i 0 l)
+    ∙ set-at (tabulate i f) (getD out i 0) (drop (suc i) out) (f i) i (length-tabulate i f)
+    ∙ sym (append-snoc (tabulate i f) (f i) (drop (suc i) out))
+    ∙ ap (λ (r : List ℕ). r ++ drop (suc i) out) (sym (tabulate-more i f))
+    ∙ ap (λ (n : ℕ). parities n ws ++ drop n out) (sym (add-one i))

@@ -1,0 +1,3 @@
+-- What a scan of the blocks finds, and the laws of it.
+pub mod Meaning
+pub mod Laws

@@ -1,0 +1,50 @@
+-- What a scan of the blocks finds, in terms of their states. Assumes nothing.
+use mathlib.Core.Path.{_≡_}
+use mathlib.Core.Bool.{true, false}
+use mathlib.Core.List.{List}
+use Prim.Native.Nat.{ℕ, _+_, _*_, _%_, _<_}
+use native.Mathlib.Decide.{decLt}
+use lib.ListN.{getD}
+use Rattle.rules.specs.Search.{pick, done, noPlace}
+use Rattle.rules.specs.Cells.{tabulate, block, store}
+use Rattle.rules.specs.Block.{State, active, cycle}
+use Rattle.rules.specs.Plain.{HasBit, IsEmpty, BlocksOk, states, change}
+use Rattle.plain.specs.declared.Scan.{Scan}
+use Rattle.plain.specs.declared.Found.{Found}
+use Rattle.plain.specs.declared.Found.the-variants.{At, Nowhere}
+
+-- no block below j has bit i
+abbrev pub Free : (ℕ → State) → ℕ → ℕ → Type 0
+Free st j i = (y : ℕ) → y < j → ¬ (HasBit i (st y))
+
+-- the first place below j where P holds; m stands for none
+pub data Place (P : ℕ → Type 0) (j m : ℕ) : ℕ → Type 0 where
+  some : (x : ℕ) → x < j → P x → ((y : ℕ) → y < x → ¬ (P y)) → Place P j m x
+  none : ((y : ℕ) → y < j → ¬ (P y)) → Place P j m m
+
+-- bit i below block j: its block and its weight, or m and 0 where it has none
+pub data Held (st : ℕ → State) (i j m : ℕ) : ℕ → ℕ → Type 0 where
+  held : (x v : ℕ) → x < j → st x ≡ active i v → Free st x i → Held st i j m x v
+  free : Free st j i → Held st i j m m 0
+
+-- what a scan says of the m blocks: whether they keep the rules, and then the first empty block and every bit's block and weight
+pub record Scanned (k L m : ℕ) (xs : List ℕ) (r : Scan) : Type 0 where
+  pub sound : r .sound ≡ true → BlocksOk k L m xs
+  pub broken : r .sound ≡ false → ¬ (BlocksOk k L m xs)
+  pub empty : r .sound ≡ true → Place (λ j. IsEmpty (states k L xs j)) m m (r .empty)
+  pub bits : r .sound ≡ true → (i : ℕ) → i < k → Held (states k L xs) i m m (getD (r .places) i 0) (getD (r .weights) i 0)
+
+-- the place that a scan gives for a change of bit i: its block, or else the first empty one
+abbrev pub placeIn : Scan → ℕ → ℕ → Found
+placeIn s i m =
+    pick (decLt (getD (s .places) i 0) m) (At (getD (s .places) i 0) (getD (s .weights) i 0))
+    (pick (decLt (s .empty) m) (At (s .empty) 0) Nowhere)
+
+-- the place of a change of bit i: a block with the weight that it has on the bit's cycle, or none
+pub data PlaceOf (k L m i : ℕ) (xs : List ℕ) : Found → Type 0 where
+  step : (j v : ℕ) → j < m → v < k * L → block k xs j ≡ cycle k L i v → change k L m i xs ≡ done (store k xs j (cycle k L i (v + 1))) → PlaceOf k L m i xs (At j v)
+  erase : change k L m i xs ≡ noPlace → PlaceOf k L m i xs Nowhere
+
+-- the values of k bits, from their weights
+abbrev pub parities : ℕ → List ℕ → List ℕ
+parities k ws = tabulate k (λ i. getD ws i 0 % 2)
