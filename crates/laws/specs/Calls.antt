@@ -153,6 +153,47 @@ size-passed r xs e = go (erase-checks r xs) e
     go (passed p) e = p
     go (refused a q) e = absurd (let z : _≡_ {A = ℕ} 0 1 = cc in omega arith)
 
+-- ---- each refusal after checks 1 and 2, in number order
+
+module _ (r : Settings) (xs out : List ℕ) (p : eraseChecks r xs ≡ Pass) where
+  rest-read : {c : Check} → readRest r xs out ≡ c → readCall r xs out ≡ reading r xs out c
+  rest-read e = read-first r xs out p ∙ ap (reading r xs out) e
+
+  pub read-short : ¬ (r .k ≤ length out) → readCall r xs out ≡ record { answer = ShortOutput; places = out }
+  read-short h = rest-read (then-ends _ (ask-fails (decLe (r .k) (length out)) ShortOutput h))
+
+  module _ (l : r .k ≤ length out) where
+    pub read-level : (c : ℕ) → firstAbove (r .top) xs ≡ at c → readCall r xs out ≡ record { answer = BadLevel c; places = out }
+    read-level c e = rest-read (then-goes _ (ask-passes (decLe (r .k) (length out)) ShortOutput l) ∙ then-ends _ (ap levelCheck e))
+
+    pub read-broken : firstAbove (r .top) xs ≡ nowhere → ¬ (Sound r xs) → readCall r xs out ≡ record { answer = BadSheet; places = out }
+    read-broken e h = rest-read (then-goes _ (ask-passes (decLe (r .k) (length out)) ShortOutput l) ∙ then-goes _ (ap levelCheck e) ∙ ask-fails (sound? r xs) BadSheet h)
+
+    pub read-sound : firstAbove (r .top) xs ≡ nowhere → Sound r xs → readCall r xs out ≡ reading r xs out Pass
+    read-sound e h = rest-read (then-goes _ (ask-passes (decLe (r .k) (length out)) ShortOutput l) ∙ then-goes _ (ap levelCheck e) ∙ ask-passes (sound? r xs) BadSheet h)
+
+module _ (r : Settings) (xs : List ℕ) (i : ℕ) (p : eraseChecks r xs ≡ Pass) where
+  rest-change : {c : Check} → changeRest r xs i ≡ c → changeCall r xs i ≡ changing r xs i c
+  rest-change e = change-first r xs i p ∙ ap (changing r xs i) e
+
+  pub change-bit : ¬ (i < r .k) → changeCall r xs i ≡ record { answer = BadBit; sheet = xs }
+  change-bit h = rest-change (then-ends _ (ask-fails (decLt i (r .k)) BadBit h))
+
+  module _ (l : i < r .k) where
+    pub change-level : (c : ℕ) → firstAbove (r .top) xs ≡ at c → changeCall r xs i ≡ record { answer = BadLevel c; sheet = xs }
+    change-level c e = rest-change (then-goes _ (ask-passes (decLt i (r .k)) BadBit l) ∙ then-ends _ (ap levelCheck e))
+
+    -- with levels in order, what is left is check 6 and the maps
+    pub change-sheet : firstAbove (r .top) xs ≡ nowhere → changeCall r xs i ≡ changing r xs i (checkSheet r xs)
+    change-sheet e = rest-change (then-goes _ (ask-passes (decLt i (r .k)) BadBit l) ∙ then-goes _ (ap levelCheck e))
+
+-- check 6, and then the maps
+pub sheet-broken : (r : Settings) (xs : List ℕ) (i : ℕ) → ¬ (Sound r xs) → changing r xs i (checkSheet r xs) ≡ record { answer = BadSheet; sheet = xs }
+sheet-broken r xs i h = ap (changing r xs i) (ask-fails (sound? r xs) BadSheet h)
+
+pub sheet-maps : (r : Settings) (xs : List ℕ) (i : ℕ) {q : Result (List ℕ)} → Sound r xs → changeSheet r xs i ≡ q → changing r xs i (checkSheet r xs) ≡ changed xs q
+sheet-maps r xs i h e = ap (changing r xs i) (ask-passes (sound? r xs) BadSheet h) ∙ ap (changed xs) e
+
 -- ---- calls
 
 -- what a change comes to

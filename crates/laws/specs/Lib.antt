@@ -14,3 +14,4 @@ pub mod PlainSheet
 pub mod Halve
 pub mod Parity
 pub mod Calls
+pub mod Kinds

@@ -9,16 +9,18 @@ use Rattle.rules.specs.Search.{Result, done, noPlace}
 use Rattle.rules.specs.Cells.{sum, Low, Rises}
 use Rattle.rules.specs.Plain.{Spare}
 use Rattle.rules.specs.Plain as R
-use Rattle.rules.specs.Staged.{Sheet, readCells, changeCells}
+use Rattle.rules.specs.Staged.{Sheet}
 use Rattle.rules.specs.Batches.{decode, write, indexCells}
+use Rattle.rules.specs.Batches as B
 use Rattle.rules.specs.Accept.{Genuine}
 use Rattle.rules.specs.AcceptLaws.{PlainFacts, StagedFacts, genuine-facts}
-use Rattle.rules.specs.Calls.{SoundAt, Sound, readAt, readBit, changeAt, changeSheet, Outcome, changed, changing, changeCall}
+use Rattle.rules.specs.Calls.{readBit, changeAt, changeSheet, Outcome, changed, changing, changeCall}
 use Rattle.rules.specs.Answer.{numberOf, valueOf}
 use Rattle.rules.specs.declared.Check.{Check}
 use Rattle.rules.specs.declared.Settings.{Settings}
 use Rattle.rules.specs.declared.Answer.{Answer}
 use Rattle.rules.specs.declared.Answer.the-variants.{Done, Erase}
+use Rattle.laws.specs.Kinds.{plain-sound, sound-plain, plain-read, plain-change, staged-sound, sound-staged, staged-read, staged-change}
 use Rattle.laws.specs.Lists.{rises-sum}
 use Rattle.lifetime.specs.Place.{NoBlockLeft, NoPlace, plain-place, cells-place}
 use Rattle.laws.specs.PlainSheet as P
@@ -39,7 +41,7 @@ pub record Changed (r : Settings) (i : ℕ) (xs ys : List ℕ) : Type 0 where
 module _ (r : Settings) (p : PlainFacts r) where
   plain-is : (xs : List ℕ) → Accepted r xs → P.Accepted (r .k) (r .top) (r .m) (r .n) xs
   plain-is xs a =
-      let q : R.Sound (r .k) (r .top) (r .m) (r .n) xs = subst (λ (x : ℕ). SoundAt x r xs) (p .plain) (a .sound) in
+      let q : R.Sound (r .k) (r .top) (r .m) (r .n) xs = plain-sound r p xs (a .sound) in
       record { long = a .long; low = a .low; lawful = P.blocks-lawful (r .k) (r .top) (r .m) xs (omega (arith, p .bits-least)) (p .top-least) (q .0); spare = q .1 }
 
   pub is-plain : (xs : List ℕ) → Genuine r → P.Accepted (r .k) (r .top) (r .m) (r .n) xs → Accepted r xs
@@ -47,28 +49,20 @@ module _ (r : Settings) (p : PlainFacts r) where
     genuine = g;
     long = a .long;
     low = a .low;
-    sound = subst (λ (x : ℕ). SoundAt x r xs) (sym (p .plain)) (P.lawful-blocks (r .k) (r .top) (r .m) xs (a .lawful), a .spare);
+    sound = sound-plain r p xs (P.lawful-blocks (r .k) (r .top) (r .m) xs (a .lawful), a .spare);
   }
-
-  pub plain-read : (xs : List ℕ) (i : ℕ) → readBit r xs i ≡ R.read (r .k) (r .top) (r .m) xs i
-  unfolding readBit
-  plain-read xs i = ap (λ (x : ℕ). readAt x r xs i) (p .plain)
-
-  pub plain-change : (xs : List ℕ) (i : ℕ) → changeSheet r xs i ≡ R.change (r .k) (r .top) (r .m) i xs
-  unfolding changeSheet
-  plain-change xs i = ap (λ (x : ℕ). changeAt x r xs i) (p .plain)
 
   plain-law : (i : ℕ) (xs ys : List ℕ) → Accepted r xs → i < r .k → changeSheet r xs i ≡ done ys → P.Changed (r .k) (r .top) (r .m) (r .n) i xs ys
   plain-law i xs ys a l e =
-      P.change-law (r .k) (r .top) (r .m) (r .n) (p .bits-least) (p .top-least) (p .even) (p .inside) i l xs (plain-is xs a) ys (sym (plain-change xs i) ∙ e)
+      P.change-law (r .k) (r .top) (r .m) (r .n) (p .bits-least) (p .top-least) (p .even) (p .inside) i l xs (plain-is xs a) ys (sym (plain-change r p xs i) ∙ e)
 
   plain-changed : (i : ℕ) (xs ys : List ℕ) → Accepted r xs → i < r .k → changeSheet r xs i ≡ done ys → Changed r i xs ys
   plain-changed i xs ys a l e =
       let h : P.Changed (r .k) (r .top) (r .m) (r .n) i xs ys = plain-law i xs ys a l e in
       record {
         stays = is-plain ys (a .genuine) (h .stays);
-        flips = plain-read ys i ∙ h .flips ∙ ap (λ (x : ℕ). 1 - x) (sym (plain-read xs i));
-        keeps = λ b _ d. plain-read ys b ∙ h .keeps b d ∙ sym (plain-read xs b);
+        flips = plain-read r p ys i ∙ h .flips ∙ ap (λ (x : ℕ). 1 - x) (sym (plain-read r p xs i));
+        keeps = λ b _ d. plain-read r p ys b ∙ h .keeps b d ∙ sym (plain-read r p xs b);
         rises = h .rises;
       }
 
@@ -102,7 +96,7 @@ module _ (r : Settings) (p : StagedFacts r) where
 
   pub staged-is : (xs : List ℕ) → Accepted r xs → T.Accepted (r .s) (r .m) (r .top) means back (r .n) Clean xs
   staged-is xs a =
-      let q : SoundAt 1 r xs = subst (λ (x : ℕ). SoundAt x r xs) (p .staged) (a .sound) in
+      let q : B.Sound (r .s) (r .m) (r .top) (r .w) (r .n) xs = staged-sound r p xs (a .sound) in
       record {
         clean = q .1;
         long = a .long;
@@ -115,25 +109,17 @@ module _ (r : Settings) (p : StagedFacts r) where
     genuine = g;
     long = a .long;
     low = a .low;
-    sound = subst (λ (x : ℕ). SoundAt x r xs) (sym (p .staged)) (fits-sound (r .s) (r .m) (r .top) (means xs) (a .fits), a .clean);
+    sound = sound-staged r p xs (fits-sound (r .s) (r .m) (r .top) (means xs) (a .fits), a .clean);
   }
-
-  pub staged-read : (xs : List ℕ) (i : ℕ) → readBit r xs i ≡ readCells (r .s) (r .m) (r .top) means xs i
-  unfolding readBit
-  staged-read xs i = ap (λ (x : ℕ). readAt x r xs i) (p .staged)
-
-  pub staged-change : (xs : List ℕ) (i : ℕ) → changeSheet r xs i ≡ changeCells (r .s) (r .m) (r .top) means back i xs
-  unfolding changeSheet
-  staged-change xs i = ap (λ (x : ℕ). changeAt x r xs i) (p .staged)
 
   staged-changed : (i : ℕ) (xs ys : List ℕ) → Accepted r xs → i < r .k → changeSheet r xs i ≡ done ys → Changed r i xs ys
   staged-changed i xs ys a l e =
       let h : T.Changed (r .s) (r .m) (r .top) means back (r .n) Clean i xs ys =
-      T.change-law (r .s) (r .m) (r .top) (r .n) means back Clean stored (p .top-least) (p .stages-least) many i xs ys (staged-is xs a) (below l) (sym (staged-change xs i) ∙ e) in
+      T.change-law (r .s) (r .m) (r .top) (r .n) means back Clean stored (p .top-least) (p .stages-least) many i xs ys (staged-is xs a) (below l) (sym (staged-change r p xs i) ∙ e) in
       record {
         stays = is-staged ys (a .genuine) (h .stays);
-        flips = staged-read ys i ∙ h .flips ∙ ap (λ (x : ℕ). 1 - x) (sym (staged-read xs i));
-        keeps = λ b lb d. staged-read ys b ∙ h .keeps b (below lb) d ∙ sym (staged-read xs b);
+        flips = staged-read r p ys i ∙ h .flips ∙ ap (λ (x : ℕ). 1 - x) (sym (staged-read r p xs i));
+        keeps = λ b lb d. staged-read r p ys b ∙ h .keeps b (below lb) d ∙ sym (staged-read r p xs b);
         rises = h .rises;
       }
 
