@@ -1,9 +1,9 @@
 -- Laws of a scan: what one more block adds to what is known, and what a scan says of a reading and of a change. Assumes nothing.
 use mathlib.Core.Bool.{Bool, true, false}
-use mathlib.Core.List.{List, [], _∷_, _++_, append-nil}
+use mathlib.Core.List.{List, [], _∷_, _++_}
 use mathlib.Core.Logic.{_≢_, ⊎-elim}
 use mathlib.Core.Path.{_≡_, _∙_, ap, ap₂, refl, subst, sym}
-use Prim.Native.Nat.{ℕ, zero, suc, _+_, _-_, _*_, _%_, _≤_, _<_}
+use Prim.Native.Nat.{ℕ, zero, suc, _+_, _-_, _*_, _%_, _≤_, _<_, suc-le-suc}
 use native.Mathlib.Decide.{ℕ-discrete, decLt}
 use native.Mathlib.Nat.{eq-or-lt-of-le, le-of-suc-le-suc, le-refl, mul-le-mul-right, mul-pos, not-suc-le-zero}
 use native.Mathlib.Numerals.{add-one}
@@ -17,12 +17,11 @@ use Rattle.laws.specs.Lists.{low-drop, low-take, sum-append}
 use Rattle.laws.specs.Stage.{absent-at}
 use Rattle.rules.specs.Block.{State, active, broken, cellsOf, cycle, empty, full, grown, next, stateOf}
 use Rattle.rules.specs.Cells.{Low, block, store, sum, tabulate}
-use Rattle.rules.specs.Plain.{AllOnCycle, BlocksOk, HasBit, IsEmpty, NoRepeat, OnCycle, SameBit, bitOf, carryOut, change, erase, hasBit?, isEmpty?, plan, planFrom, put, read, states, valueAt, weight}
+use Rattle.rules.specs.Plain.{AllOnCycle, BlocksOk, HasBit, IsEmpty, NoRepeat, OnCycle, SameBit, bitOf, carryOut, change, hasBit?, isEmpty?, plan, planFrom, read, states, valueAt, weight}
 use Rattle.rules.specs.Search.{at, done, first, noPlace, nowhere, pick}
 use Rattle.rules.specs.SearchLaws.{First, first-eq, hit, miss, pick-no, pick-yes}
 use Rattle.rules.specs.Stage.{Absent}
-use Rattle.plain.specs.Meaning.{Free, Held, Place, PlaceOf, Scanned, free, held, none, parities, placeIn, some, step}
-use Rattle.plain.specs.Meaning as M
+use Rattle.plain.specs.Meaning.{Free, Held, Place, PlaceOf, Scanned, erase, free, held, none, parities, placeIn, some, step}
 use Rattle.plain.specs.declared.Scan.{Scan}
 use Rattle.plain.specs.declared.Found.the-variants.{At, Nowhere}
 
@@ -54,32 +53,38 @@ held-skip n (free b) = free (all-more b n)
 
 -- ---- a list with one more number
 
+-- what is in neither part is in no list of the two
 absent-snoc : (i b : ℕ) (xs : List ℕ) → Absent i xs → i ≢ b → Absent i (xs ++ (b ∷ []))
 absent-snoc i b [] o d = (d, tt)
 absent-snoc i b (x ∷ xs) o d = (o .0, absent-snoc i b xs (o .1) d)
 
+-- what is not in the longer list is not in its front
 absent-front : (i b : ℕ) (xs : List ℕ) → Absent i (xs ++ (b ∷ [])) → Absent i xs
 absent-front i b [] o = tt
 absent-front i b (x ∷ xs) o = (o .0, absent-front i b xs (o .1))
 
+-- nor is it its last number
 absent-last : (i b : ℕ) (xs : List ℕ) → Absent i (xs ++ (b ∷ [])) → i ≢ b
 absent-last i b [] o = o .0
 absent-last i b (x ∷ xs) o = absent-last i b xs (o .1)
 
+-- a number that is not in a list of distinct numbers makes one more
 distinct-snoc : (b : ℕ) (xs : List ℕ) → Distinct xs → Absent b xs → Distinct (xs ++ (b ∷ []))
 distinct-snoc b [] d o = (tt, tt)
 distinct-snoc b (x ∷ xs) d o = (absent-snoc x b xs (d .0) (λ e. o .0 (sym e)), distinct-snoc b xs (d .1) (o .1))
 
+-- one more number below k
 below-snoc : (k b : ℕ) (xs : List ℕ) → Below k xs → b < k → Below k (xs ++ (b ∷ []))
 below-snoc k b [] h l = (l, tt)
 below-snoc k b (x ∷ xs) h l = (h .0, below-snoc k b xs (h .1) l)
 
--- what the search for a repeat knows: one more number that isn't b; b itself
+-- what the search for a repeat knows: one more number seen isn't b
 pub absent-more : (b x : ℕ) (seen : List ℕ) → x < length seen → Absent b (take x seen) → ¬ (getD seen x 0 ≡ b) → Absent b (take (x + 1) seen)
 absent-more b x seen l o d =
     subst (λ (n : ℕ). Absent b (take n seen)) (sym (add-one x))
     (subst (Absent b) (sym (take-suc seen x 0 l)) (absent-snoc b (getD seen x 0) (take x seen) o (λ e. d (sym e))))
 
+-- one of the numbers seen is b
 pub not-absent : (b x n : ℕ) (seen : List ℕ) → x < n → n ≤ length seen → getD seen x 0 ≡ b → ¬ (Absent b (take n seen))
 not-absent b x n seen l h e o =
     let q : x < length (take n seen) = omega (arith, length-take-le n seen h) in
@@ -139,7 +144,7 @@ known-none k m st h = record {
   seen = record { distinct = tt; below = tt; told = λ i o y l. absurd (not-suc-le-zero l); free = λ i f. tt };
 }
 
-module _ (k m : ℕ) (st : ℕ → State) (j e : ℕ) (places weights bits : List ℕ) (g : Known k m st j e places weights bits) where
+module _ {k m : ℕ} {st : ℕ → State} {j e : ℕ} {places weights bits : List ℕ} (g : Known k m st j e places weights bits) where
   -- one more block with no bit
   known-idle : (e′ : ℕ) → OnCycle (st j) → ((i : ℕ) → ¬ (HasBit i (st j))) → Place (λ y. IsEmpty (st y)) (suc j) m e′ → Known k m st (suc j) e′ places weights bits
   known-idle e′ o n p = record {
@@ -170,8 +175,8 @@ module _ (k m : ℕ) (st : ℕ → State) (j e : ℕ) (places weights bits : Lis
   known-first q n l = subst (λ (x : ℕ). Known k m st x j places weights bits) (sym (add-one j))
       (known-idle j (subst OnCycle (sym q) tt) (λ i h. subst (HasBit i) q h) (place-new (g .first) l n (subst IsEmpty (sym q) tt)))
 
-  -- an active block whose bit no earlier one holds
   module _ (b v : ℕ) (q : st j ≡ active b v) where
+    -- each bit's block and weight, with block j
     held-more : b < length places → b < length weights → Free st j b → (i : ℕ) → i < k → Dec (i ≡ b)
         → Held st i (suc j) m (getD (set places b j) i 0) (getD (set weights b v) i 0)
     held-more lp lw f i l (yes c) =
@@ -184,6 +189,7 @@ module _ (k m : ℕ) (st : ℕ → State) (j e : ℕ) (places weights bits : Lis
         subst (λ (p : ℕ). Held st i (suc j) m p (getD (set weights b v) i 0)) (sym (getD-set-other places b i j 0 d))
         (subst (λ (w : ℕ). Held st i (suc j) m (getD places i 0) w) (sym (getD-set-other weights b i v 0 d)) (held-skip n (g .held i l)))
 
+    -- the bits seen, with that of block j
     seen-more : b < k → Absent b bits → Seen k st (suc j) (bits ++ (b ∷ []))
     seen-more l o = record {
       distinct = distinct-snoc b bits (g .seen .distinct) o;
@@ -192,6 +198,7 @@ module _ (k m : ℕ) (st : ℕ → State) (j e : ℕ) (places weights bits : Lis
       free = λ i f. absent-snoc i b bits (g .seen .free i (λ y z. f y (omega arith))) (λ c. f j (le-refl (suc j)) (subst (HasBit i) (sym q) c));
     }
 
+    -- an active block whose bit no earlier one holds
     pub known-active : b < k → b < length places → b < length weights → Absent b bits
         → Known k m st (j + 1) e (set places b j) (set weights b v) (bits ++ (b ∷ []))
     known-active l lp lw o = subst (λ (x : ℕ). Known k m st x e (set places b j) (set weights b v) (bits ++ (b ∷ []))) (sym (add-one j)) record {
@@ -210,6 +217,7 @@ module _ (k m : ℕ) (st : ℕ → State) (j e : ℕ) (places weights bits : Lis
 
 -- ---- what a scan says
 
+-- true is not false
 true-false : {A : Type 0} → true ≡ false → A
 true-false e = let z : _≡_ {A = ℕ} 0 1 = cc in absurd (omega arith)
 
@@ -222,7 +230,7 @@ refused-is k L m xs r f n = record {
   bits = λ q. true-false (sym q ∙ f);
 }
 
-module _ (k L m : ℕ) (xs : List ℕ) (j e : ℕ) (places weights bits : List ℕ) (g : Known k m (states k L xs) j e places weights bits) where
+module _ {k L m : ℕ} {xs : List ℕ} {j e : ℕ} {places weights bits : List ℕ} (g : Known k m (states k L xs) j e places weights bits) where
   -- all blocks keep the rules
   pub scan-sound : ¬ (j < m) → j ≤ m → Scanned k L m xs record { sound = true; empty = e; places = places; weights = weights }
   scan-sound n l =
@@ -236,7 +244,45 @@ module _ (k L m : ℕ) (xs : List ℕ) (j e : ℕ) (places weights bits : List �
 
   -- a block repeats the bit of an earlier one
   pub scan-repeat : (r : Scan) → r .sound ≡ false → j < m → (b v : ℕ) → states k L xs j ≡ active b v → ¬ (Absent b bits) → Scanned k L m xs r
-  scan-repeat r f l b v q o = refused-is k L m xs r f (λ h. known-repeat k m (states k L xs) j e places weights bits g b v q o (h .1 j l))
+  scan-repeat r f l b v q o = refused-is k L m xs r f (λ h. known-repeat g b v q o (h .1 j l))
+
+-- ---- no second outcome
+
+-- there is one first place
+place-one : {P : ℕ → Type 0} {j m x y : ℕ} → Place P j m x → Place P j m y → x ≡ y
+place-one (some x l h b) (some y l′ h′ b′) =
+    let p : ¬ (x < y) = λ q. b′ x q h in
+    let q : ¬ (y < x) = λ q. b y q h′ in
+    omega arith
+place-one (some x l h b) (none b′) = absurd (b′ x l h)
+place-one (none b) (some y l′ h′ b′) = absurd (b y l′ h′)
+place-one (none b) (none b′) = refl
+
+-- a bit has one block and one weight
+held-one : {st : ℕ → State} {i j m p v p′ v′ : ℕ} → Held st i j m p v → Held st i j m p′ v′ → (p ≡ p′) × (v ≡ v′)
+held-one (held x v l e b) (held y w l′ e′ b′) =
+    let p : ¬ (x < y) = λ q. b′ x q (to-bit e) in
+    let q : ¬ (y < x) = λ q. b y q (to-bit e′) in
+    let r : x ≡ y = omega arith in
+    let z : v ≡ w = cc in
+    (r, z)
+held-one (held x v l e b) (free b′) = absurd (b′ x l (to-bit e))
+held-one (free b) (held y w l′ e′ b′) = absurd (b y l′ (to-bit e′))
+held-one (free b) (free b′) = (refl, refl)
+
+-- two scans of the same blocks agree: whether they keep the rules, and then the first empty block and each bit's block and weight
+pub scanned-one : (k L m : ℕ) (xs : List ℕ) (r s : Scan) → Scanned k L m xs r → Scanned k L m xs s
+    → (r .sound ≡ s .sound)
+    × (r .sound ≡ true → (r .empty ≡ s .empty) × ((i : ℕ) → i < k → (getD (r .places) i 0 ≡ getD (s .places) i 0) × (getD (r .weights) i 0 ≡ getD (s .weights) i 0)))
+scanned-one k L m xs r s a b =
+    let e : r .sound ≡ s .sound = go (r .sound) (s .sound) refl refl in
+    (e, λ q. (place-one (a .empty q) (b .empty (sym e ∙ q)), λ i l. held-one (a .bits q i l) (b .bits (sym e ∙ q) i l)))
+  where
+    go : (x y : Bool) → r .sound ≡ x → s .sound ≡ y → r .sound ≡ s .sound
+    go true true p q = p ∙ sym q
+    go true false p q = absurd (b .broken q (a .sound p))
+    go false true p q = absurd (a .broken p (b .sound q))
+    go false false p q = p ∙ sym q
 
 -- ---- the state of a block, from its part of the cells
 
@@ -256,10 +302,11 @@ unfolding states
 part-state k L xs j s h e =
     sym (e ∙ ap (λ (b : List ℕ). stateOf (length b) L b) (part-block k xs j) ∙ ap (λ (n : ℕ). stateOf n L (block k xs j)) (length-block k xs j h))
 
--- it has k cells, none above L
+-- it has k cells
 pub part-length : (k : ℕ) (xs : List ℕ) (j : ℕ) → j * k + k ≤ length xs → length (take (j * k + k - j * k) (drop (j * k) xs)) ≡ k
 part-length k xs j h = ap length (part-block k xs j) ∙ length-block k xs j h
 
+-- and none of them is above L
 pub part-low : (k L : ℕ) (xs : List ℕ) (j : ℕ) → Low L xs → Low L (take (j * k + k - j * k) (drop (j * k) xs))
 part-low k L xs j h = low-take L (j * k + k - j * k) (drop (j * k) xs) (low-drop L (j * k) xs h)
 
@@ -281,6 +328,7 @@ module _ (k L m i : ℕ) (xs : List ℕ) (h : 0 < k) (g : 0 < L) (b : i < k) whe
   unfolding states
   block-means j s e = subst (λ (t : State). Means k L t (block k xs j)) e (state-means k L h g (block k xs j))
 
+  -- the change of a bit that has a block: its next step
   own-block : {p : ℕ} → First (λ y. HasBit i (states k L xs y)) m (at p) → (v : ℕ) → states k L xs p ≡ active i v → change k L m i xs ≡ done (store k xs p (cycle k L i (v + 1)))
   unfolding change plan
   own-block {p} f v e =
@@ -290,6 +338,7 @@ module _ (k L m i : ℕ) (xs : List ℕ) (h : 0 < k) (g : 0 < L) (b : i < k) whe
       ∙ ap (λ (s : State). done (store k xs p (cellsOf k L (next (k * L) s)))) e
       ∙ ap (λ (c : List ℕ). done (store k xs p c)) (grown-cells k L i v (omega arith) d)
 
+  -- the change of a bit that has none: a new step in the first empty block
   new-block : {p : ℕ} → First (λ y. HasBit i (states k L xs y)) m nowhere → First (λ y. IsEmpty (states k L xs y)) m (at p) → change k L m i xs ≡ done (store k xs p (cycle k L i 1))
   unfolding change plan
   new-block f q =
@@ -297,6 +346,7 @@ module _ (k L m i : ℕ) (xs : List ℕ) (h : 0 < k) (g : 0 < L) (b : i < k) whe
       ap (λ r. carryOut k L xs (planFrom (k * L) st i r (first (λ y. isEmpty? (st y)) m))) (first-eq (λ y. hasBit? i (st y)) m f)
       ∙ ap (λ r. carryOut k L xs (planFrom (k * L) st i nowhere r)) (first-eq (λ y. isEmpty? (st y)) m q)
 
+  -- the change of a bit that has none where no block is empty
   no-block : First (λ y. HasBit i (states k L xs y)) m nowhere → First (λ y. IsEmpty (states k L xs y)) m nowhere → change k L m i xs ≡ noPlace
   unfolding change plan
   no-block f q =
@@ -304,6 +354,7 @@ module _ (k L m i : ℕ) (xs : List ℕ) (h : 0 < k) (g : 0 < L) (b : i < k) whe
       ap (λ r. carryOut k L xs (planFrom (k * L) st i r (first (λ y. isEmpty? (st y)) m))) (first-eq (λ y. hasBit? i (st y)) m f)
       ∙ ap (λ r. carryOut k L xs (planFrom (k * L) st i nowhere r)) (first-eq (λ y. isEmpty? (st y)) m q)
 
+  -- an empty block is the step of weight 0 on any cycle
   empty-cells : (j : ℕ) → IsEmpty (states k L xs j) → block k xs j ≡ cycle k L i 0
   empty-cells j n = block-means j empty (empty-view (states k L xs j) n) ∙ sym (cycle-zero k L i (omega arith))
     where
@@ -313,6 +364,7 @@ module _ (k L m i : ℕ) (xs : List ℕ) (h : 0 < k) (g : 0 < L) (b : i < k) whe
       empty-view broken n = absurd n
       empty-view (active j v) n = absurd n
 
+  -- a bit's block and the first empty block give the place of the change
   place-is : {p v e : ℕ} → Held (states k L xs) i m m p v → Place (λ y. IsEmpty (states k L xs y)) m m e
       → PlaceOf k L m i xs (pick (decLt p m) (At p v) (pick (decLt e m) (At e 0) Nowhere))
   place-is {e = e} (held x v l q f) w =
@@ -326,24 +378,27 @@ module _ (k L m i : ℕ) (xs : List ℕ) (h : 0 < k) (g : 0 < L) (b : i < k) whe
   place-is (free f) (none z) =
       let no-own : ¬ (m < m) = λ q. omega arith in
       subst (PlaceOf k L m i xs) (sym (pick-no (decLt m m) (At m 0) (pick (decLt m m) (At m 0) Nowhere) no-own ∙ pick-no (decLt m m) (At m 0) Nowhere no-own))
-      (M.erase (no-block (miss f) (miss z)))
+      (erase (no-block (miss f) (miss z)))
 
-  read-is : {p v : ℕ} → Held (states k L xs) i m m p v → read k L m xs i ≡ v % 2
-  unfolding read bitOf
-  read-is (held x v l q f) =
-      let st = states k L xs in
-      ap (valueAt (k * L) st) (first-eq (λ y. hasBit? i (st y)) m (hit x l (to-bit q) f)) ∙ ap (λ (s : State). weight (k * L) s % 2) q
-  read-is (free f) = let st = states k L xs in ap (valueAt (k * L) st) (first-eq (λ y. hasBit? i (st y)) m (miss f))
+-- a bit's weight gives its reading
+read-is : (k L m i : ℕ) (xs : List ℕ) {p v : ℕ} → Held (states k L xs) i m m p v → read k L m xs i ≡ v % 2
+unfolding read bitOf
+read-is k L m i xs (held x v l q f) =
+    let st = states k L xs in
+    ap (valueAt (k * L) st) (first-eq (λ y. hasBit? i (st y)) m (hit x l (to-bit q) f)) ∙ ap (λ (s : State). weight (k * L) s % 2) q
+read-is k L m i xs (free f) = let st = states k L xs in ap (valueAt (k * L) st) (first-eq (λ y. hasBit? i (st y)) m (miss f))
 
--- the place that a scan gives: the bit's block, or else the first empty one, or else none
+-- the place that a scan gives: the bit's block
 pub place-own : (s : Scan) (i m : ℕ) → getD (s .places) i 0 < m → placeIn s i m ≡ At (getD (s .places) i 0) (getD (s .weights) i 0)
 place-own s i m h = pick-yes (decLt (getD (s .places) i 0) m) (At (getD (s .places) i 0) (getD (s .weights) i 0)) (pick (decLt (s .empty) m) (At (s .empty) 0) Nowhere) h
 
+-- the bit has no block: the first empty one
 pub place-empty : (s : Scan) (i m : ℕ) → ¬ (getD (s .places) i 0 < m) → s .empty < m → placeIn s i m ≡ At (s .empty) 0
 place-empty s i m n h =
     pick-no (decLt (getD (s .places) i 0) m) (At (getD (s .places) i 0) (getD (s .weights) i 0)) (pick (decLt (s .empty) m) (At (s .empty) 0) Nowhere) n
     ∙ pick-yes (decLt (s .empty) m) (At (s .empty) 0) Nowhere h
 
+-- and there is no empty one: none
 pub place-none : (s : Scan) (i m : ℕ) → ¬ (getD (s .places) i 0 < m) → ¬ (s .empty < m) → placeIn s i m ≡ Nowhere
 place-none s i m n h =
     pick-no (decLt (getD (s .places) i 0) m) (At (getD (s .places) i 0) (getD (s .weights) i 0)) (pick (decLt (s .empty) m) (At (s .empty) 0) Nowhere) n
@@ -354,8 +409,8 @@ pub scanned-place : (k L m i : ℕ) (xs : List ℕ) (s : Scan) → 2 ≤ k → 1
 scanned-place k L m i xs s h g l b c e = place-is k L m i xs (omega arith) g b (c .bits e i b) (c .empty e)
 
 -- the parity of the weight that a scan gives is the reading
-pub scanned-read : (k L m i : ℕ) (xs : List ℕ) (s : Scan) → 2 ≤ k → 1 ≤ L → i < k → Scanned k L m xs s → s .sound ≡ true → read k L m xs i ≡ getD (s .weights) i 0 % 2
-scanned-read k L m i xs s h g b c e = read-is k L m i xs (omega arith) g b (c .bits e i b)
+pub scanned-read : (k L m i : ℕ) (xs : List ℕ) (s : Scan) → Scanned k L m xs s → s .sound ≡ true → i < k → read k L m xs i ≡ getD (s .weights) i 0 % 2
+scanned-read k L m i xs s c e b = read-is k L m i xs (c .bits e i b)
 
 -- one step raises one level
 pub step-raises : (k L m i j v : ℕ) (xs : List ℕ) → j < m → m * k ≤ length xs → v < k * L → i < k → block k xs j ≡ cycle k L i v
@@ -372,13 +427,24 @@ step-raises k L m i j v xs l h q b e =
 
 -- ---- the values of the bits, one by one
 
+-- one more value at the end
 tabulate-more : (n : ℕ) (f : ℕ → ℕ) → tabulate (suc n) f ≡ tabulate n f ++ (f n ∷ [])
 tabulate-more zero f = refl
 tabulate-more (suc n) f = ap {B = List ℕ} (λ r. f 0 ∷ r) (tabulate-more n (λ j. f (suc j)))
 
+-- a list of n values has n places
 length-tabulate : (n : ℕ) (f : ℕ → ℕ) → length (tabulate n f) ≡ n
 length-tabulate zero f = refl
 length-tabulate (suc n) f = ap suc (length-tabulate n (λ j. f (suc j)))
+
+-- values that agree one by one
+tabulate-same : (n : ℕ) (f g : ℕ → ℕ) → ((j : ℕ) → j < n → f j ≡ g j) → tabulate n f ≡ tabulate n g
+tabulate-same zero f g h = refl
+tabulate-same (suc n) f g h = ap₂ (λ (x : ℕ) (r : List ℕ). x ∷ r) (h 0 (omega arith)) (tabulate-same n (λ j. f (suc j)) (λ j. g (suc j)) (λ j l. h (suc j) (suc-le-suc l)))
+
+-- the values of the k bits that a scan gives are their readings
+pub scanned-bits : (k L m : ℕ) (xs : List ℕ) (s : Scan) → Scanned k L m xs s → s .sound ≡ true → parities k (s .weights) ≡ tabulate k (read k L m xs)
+scanned-bits k L m xs s c e = tabulate-same k (λ i. getD (s .weights) i 0 % 2) (read k L m xs) (λ i l. sym (scanned-read k L m i xs s c e l))
 
 -- one more value in the sum
 pub parities-sum : (i : ℕ) (ws : List ℕ) → sum (parities (i + 1) ws) ≡ sum (parities i ws) + getD ws i 0 % 2

@@ -1,1 +1,3 @@
--- What the calls of the library stand on.
+-- What the parts of a call find, and the laws of it.
+pub mod Meaning
+pub mod Laws

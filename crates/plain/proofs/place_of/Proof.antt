@@ -26,11 +26,11 @@ element-copy-out-t14 c = search needs
 
 -- src/lib.rt:74:9
 returns : tie.Need-returns
-returns c = let a = c .before .before .before .args in sym (place-own (a .t1) (a .bit) (a .m) (c .before .if1 .taken))
+returns c = let a = c .before .before .before .args in sym (place-own (a .t1) (a .bit) (a .m) (omega arith))
 
 -- src/lib.rt:77:9
 returns-2 : tie.Need-returns-2
-returns-2 c = let a = c .before .before .before .args in sym (place-empty (a .t1) (a .bit) (a .m) (λ h. omega arith) (c .if2 .taken))
+returns-2 c = let a = c .before .before .before .args in sym (place-empty (a .t1) (a .bit) (a .m) (λ h. omega arith) (omega arith))
 
 -- src/lib.rt:68:1
 returns-3 : tie.Need-returns-3

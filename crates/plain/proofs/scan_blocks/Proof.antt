@@ -1,5 +1,4 @@
 -- `plain::scan_blocks` meets its contract: at block j all is known of the blocks below j. Assumes nothing.
-use mathlib.Core.List.{_∷_, [], _++_}
 use mathlib.Core.Path.{_≡_, _∙_, ap, subst, sym}
 use Prim.Native.Nat.{ℕ, _+_, _-_, _*_, _≤_, _<_}
 use native.Mathlib.Numerals.{add-one}
@@ -19,12 +18,14 @@ use Rattle.plain.proofs.scan_blocks.Lts as lts
 use Rattle.block.proofs.state_of.Reads as state-of-reads
 use Rattle.plain.proofs.refused.Reads as refused-reads
 
+-- the bit is none of the first x bits seen
 abbrev Inv-earlier : tie.InvT-earlier
 Inv-earlier cells k top m first places weights seen n j a e bit weight x₀ x = (x ≤ n) × Absent bit (take x seen)
 
 abbrev μ-earlier : tie.MeasureT-earlier
 μ-earlier cells k top m first places weights seen n j a e bit weight x₀ x = n - x
 
+-- all is known of the blocks below j
 abbrev Inv-each : tie.InvT-each
 Inv-each cells k top m first₀ places₀ weights₀ seen₀ n₀ j₀ first places weights seen n j =
     (j ≤ m) × (n ≤ 64) × (length places ≡ 64) × (length weights ≡ 64) × (length seen ≡ 64) × Known k m (states k top cells) j first places weights (take n seen)
@@ -44,29 +45,33 @@ state-is c s e =
     let a = o .before .before .args in
     part-state (a .k) (a .top) (a .cells .now) (o .each .j) s (inside (c .before .before)) (sym e ∙ c .state-of .ensures)
 
--- the bit and the weight of an active block j
+-- the bit of an active block j
 abbrev bit : tie.After-known-told Inv-earlier μ-earlier Inv-each μ-each → ℕ
 bit c = c .before .bit .given .0 .0
 
+-- its weight
 abbrev weight : tie.After-known-told Inv-earlier μ-earlier Inv-each μ-each → ℕ
 weight c = c .before .bit .given .0 .1 .0
 
+-- they are those of block j
 active-is : (c : tie.After-known-told Inv-earlier μ-earlier Inv-each μ-each) → states (c .before .before .before .before .before .before .before .before .args .k) (c .before .before .before .before .before .before .before .before .args .top) (c .before .before .before .before .before .before .before .before .args .cells .now) (c .before .before .before .before .before .before .each .j) ≡ active (bit c) (weight c)
 active-is c = state-is (c .before .before .before) (active (bit c) (weight c)) (ap asState (c .before .bit .given .1))
 
+-- the bit is one of the k bits
 bit-below : (c : tie.After-known-told Inv-earlier μ-earlier Inv-each μ-each) → bit c < c .before .before .before .before .before .before .before .before .args .k
 bit-below c =
     let o = c .before .before .before .before .before .before in
     let a = o .before .before .args in
     active-below (a .k) (a .top) (a .cells .now) (o .each .j) (bit c) (weight c) (omega arith) (omega arith) (active-is c)
 
--- after the search no earlier block holds the bit, so fewer than k bits were seen
+-- after the search no earlier block holds the bit
 unseen : (c : tie.After-earlier Inv-earlier μ-earlier Inv-each μ-each) → Absent (bit (c .before .before)) (take (c .before .before .before .before .before .before .before .before .each .n) (c .before .before .before .before .before .before .before .before .each .seen))
 unseen c =
     let o = c .before .before .before .before .before .before .before .before in
     let e : c .before .earlier .x ≡ o .each .n = omega arith in
     rw e at (c .before .earlier .inv .1)
 
+-- so fewer than k bits were seen
 few : (c : tie.After-earlier Inv-earlier μ-earlier Inv-each μ-each) → c .before .before .before .before .before .before .before .before .each .n < c .before .before .before .before .before .before .before .before .before .before .args .k
 few c =
     let o = c .before .before .before .before .before .before .before .before in
@@ -121,14 +126,13 @@ each-less c = search needs
 -- src/lib.rt:48:5
 each-again : tie.Need-each-again Inv-earlier μ-earlier Inv-each μ-each
 each-again c =
-    let o = c .before .before .before .before .before in
-    let a = o .before .before .args in (
+    let o = c .before .before .before .before .before in (
       search needs,
       search needs,
       search needs,
       search needs,
       search needs,
-      known-full (a .k) (a .m) _ (o .each .j) (o .each .empty) (o .each .places) (o .each .weights) (take (o .each .n) (o .each .seen)) (o .each .inv .5) (state-is (c .before .before) _ (ap asState (c .enum-told .given .1))),
+      known-full (o .each .inv .5) (state-is (c .before .before) _ (ap asState (c .enum-told .given .1))),
     )
 
 -- src/lib.rt:54:20
@@ -146,14 +150,13 @@ each-less-2 c = search needs
 -- src/lib.rt:48:5
 each-again-2 : tie.Need-each-again-2 Inv-earlier μ-earlier Inv-each μ-each
 each-again-2 c =
-    let o = c .before .before .before .before .before .before in
-    let a = o .before .before .args in (
+    let o = c .before .before .before .before .before .before in (
       search needs,
       search needs,
       search needs,
       search needs,
       search needs,
-      known-empty (a .k) (a .m) _ (o .each .j) (o .each .empty) (o .each .places) (o .each .weights) (take (o .each .n) (o .each .seen)) (o .each .inv .5) (state-is (c .before .before .before) _ (ap asState (c .before .enum-told2 .given .1))) (omega arith),
+      known-empty (o .each .inv .5) (state-is (c .before .before .before) _ (ap asState (c .before .enum-told2 .given .1))) (omega arith),
     )
 
 -- src/lib.rt:58:17
@@ -167,14 +170,13 @@ each-less-3 c = search needs
 -- src/lib.rt:48:5
 each-again-3 : tie.Need-each-again-3 Inv-earlier μ-earlier Inv-each μ-each
 each-again-3 c =
-    let o = c .before .before .before .before .before .before in
-    let a = o .before .before .args in (
+    let o = c .before .before .before .before .before .before in (
       search needs,
       search needs,
       search needs,
       search needs,
       search needs,
-      known-first (a .k) (a .m) _ (o .each .j) (o .each .empty) (o .each .places) (o .each .weights) (take (o .each .n) (o .each .seen)) (o .each .inv .5) (state-is (c .before .before .before) _ (ap asState (c .before .enum-told2 .given .1))) (λ h. omega arith) (omega arith),
+      known-first (o .each .inv .5) (state-is (c .before .before .before) _ (ap asState (c .before .enum-told2 .given .1))) (λ h. omega arith) (omega arith),
     )
 
 -- src/lib.rt:60:35
@@ -189,8 +191,7 @@ refused-requires c κs = search needs
 returns : tie.Need-returns Inv-earlier μ-earlier Inv-each μ-each
 returns c =
     let o = c .before .before .before .before .before .before in
-    let a = o .before .before .args in
-    scan-broken (a .k) (a .top) (a .m) (a .cells .now) (o .each .j) (o .each .empty) (o .each .places) (o .each .weights) (take (o .each .n) (o .each .seen)) (o .each .inv .5) _ (c .refused .ensures) (omega arith)
+    scan-broken (o .each .inv .5) _ (c .refused .ensures) (omega arith)
     (state-is (c .before .before .before) _ (ap asState (c .before .enum-told3 .given .1)))
 
 -- src/lib.rt:61:32
@@ -219,8 +220,7 @@ returns-2 c =
     let i = c .before .before in
     let t = i .before .before in
     let o = t .before .before .before .before .before .before in
-    let a = o .before .before .args in
-    scan-repeat (a .k) (a .top) (a .m) (a .cells .now) (o .each .j) (o .each .empty) (o .each .places) (o .each .weights) (take (o .each .n) (o .each .seen)) (o .each .inv .5) _ (c .refused2 .ensures) (omega arith)
+    scan-repeat (o .each .inv .5) _ (c .refused2 .ensures) (omega arith)
     (bit t) (weight t) (active-is t) (not-absent (bit t) (i .before .earlier .x) (o .each .n) (o .each .seen) (i .earlier-test .taken) (omega arith) (c .before .if2 .taken))
 
 -- src/lib.rt:67:21
@@ -245,7 +245,7 @@ mul-seen c = search needs
 
 -- src/lib.rt:69:17
 array-write-seen : tie.Need-array-write-seen Inv-earlier μ-earlier Inv-each μ-each
-array-write-seen c = let a = c .before .before .before .before .before .before .before .before .before .before .args in omega (arith, few c)
+array-write-seen c = omega (arith, few c)
 
 -- src/lib.rt:70:17
 add-n : tie.Need-add-n Inv-earlier μ-earlier Inv-each μ-each
@@ -281,7 +281,8 @@ each-again-4 c =
     let t = c .before .before in
     let o = t .before .before .before .before .before .before in
     let a = o .before .before .args in
-    let l : bit t < 64 = omega (arith, bit-below t) in
+    let p : bit t < length (o .each .places) = omega (arith, bit-below t) in
+    let q : bit t < length (o .each .weights) = omega (arith, bit-below t) in
     let w : o .each .n < length (o .each .seen) = omega (arith, few c) in (
       omega arith,
       omega (arith, few c),
@@ -290,15 +291,14 @@ each-again-4 c =
       simp length-set (omega arith),
       subst (Known (a .k) (a .m) _ (o .each .j + 1) (o .each .empty) (set (o .each .places) (bit t) (o .each .j)) (set (o .each .weights) (bit t) (weight t)))
           (rw (add-one (o .each .n), take-suc-set (o .each .seen) (o .each .n) (bit t) w))
-          (known-active (a .k) (a .m) _ (o .each .j) (o .each .empty) (o .each .places) (o .each .weights) (take (o .each .n) (o .each .seen)) (o .each .inv .5) (bit t) (weight t) (active-is t) (bit-below t) (omega arith) (omega arith) (unseen c)),
+          (known-active (o .each .inv .5) (bit t) (weight t) (active-is t) (bit-below t) p q (unseen c)),
     )
 
 -- src/lib.rt:38:1
 returns-3 : tie.Need-returns-3 Inv-earlier μ-earlier Inv-each μ-each
 returns-3 c =
     let o = c .before in
-    let a = o .before .before .args in
-    scan-sound (a .k) (a .top) (a .m) (a .cells .now) (o .each .j) (o .each .empty) (o .each .places) (o .each .weights) (take (o .each .n) (o .each .seen)) (o .each .inv .5) (λ h. omega arith) (omega arith)
+    scan-sound (o .each .inv .5) (λ h. omega arith) (omega arith)
 
 pub scan-blocks-spec : {M : Type 1} → statement M
 scan-blocks-spec =
