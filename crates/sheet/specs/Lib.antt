@@ -1,3 +1,4 @@
 -- What the parts of a call find, and the laws of it.
 pub mod Meaning
 pub mod Laws
+pub mod LayoutLaws
