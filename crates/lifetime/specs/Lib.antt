@@ -9,3 +9,4 @@ pub mod Batches
 pub mod Change
 pub mod Place
 pub mod Run
+pub mod OneOutcome
