@@ -10,3 +10,4 @@ pub mod Change
 pub mod Place
 pub mod Run
 pub mod OneOutcome
+pub mod Refusals
