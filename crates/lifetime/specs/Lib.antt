@@ -11,3 +11,4 @@ pub mod Place
 pub mod Run
 pub mod OneOutcome
 pub mod Refusals
+pub mod Impostors
