@@ -4,10 +4,13 @@ use mathlib.Core.Logic.{_≢_, _⊎_, inl, inr, ⊎-elim}
 use mathlib.Core.List.{List, [], _∷_, _++_}
 use Prim.Native.Nat.{ℕ, zero, suc, _+_, _-_, _*_, _^_, _%_, _≤_, _<_}
 use native.Mathlib.Nat.{le-refl, suc-inj, pow-suc}
+use native.Mathlib.Decide.{decLe}
 use native.Mathlib.Omega.{arith}
-use lib.ListN.{length, getD, replicate, length-replicate}
+use lib.ListN.{length, getD, drop, replicate, length-replicate, take-append-drop}
+use lib.Seq.{drop-at}
 use Rattle.rules.specs.Search.{Result, done, noPlace}
-use Rattle.rules.specs.Cells.{sum, Rises}
+use Rattle.rules.specs.SearchLaws.{pick-elim}
+use Rattle.rules.specs.Cells.{sum, Rises, tabulate}
 use Rattle.rules.specs.Block.{State, active, empty}
 use Rattle.rules.specs.Plain.{HasBit, states}
 use Rattle.rules.specs.Plain as R
@@ -24,11 +27,15 @@ use Rattle.rules.specs.declared.Settings.{Settings}
 use Rattle.rules.specs.declared.Setup.{Setup}
 use Rattle.rules.specs.declared.Answer.{Answer}
 use Rattle.rules.specs.declared.Answer.the-variants.{Done, Erase}
-use Rattle.laws.specs.Lists.{rises-sum}
+use Rattle.laws.specs.Lists.{rises-sum, take-replicate}
 use Rattle.laws.specs.PlainMaps.{Reads, from, none, bit-is}
 use Rattle.laws.specs.PlainSheet as P
 use Rattle.laws.specs.Calls.{Accepted}
-use Rattle.lifetime.specs.Change.{Changed, Made, change-made, sheet-changed, erased-accepted, erase-answered, done-answered, plain-read, plain-law, staged-read, means, stored}
+use Rattle.lifetime.specs.Tight as E
+use Rattle.lifetime.specs.Storage as T
+use Rattle.lifetime.specs.Staged as F
+use Rattle.lifetime.specs.Staged.{stagesLeft}
+use Rattle.lifetime.specs.Change.{Changed, Made, change-made, sheet-changed, erased-accepted, erase-answered, done-answered, plain-read, plain-law, staged-read, staged-change, means, back, Clean, many, below, stored, staged-is}
 use Rattle.lifetime.specs.Run.{counted, Run, begin, call, blank-run, run-accepted, erase-late}
 use Rattle.lifetime.specs.Refusals.{bit-two, ReadDone, read-gives, read-done-places}
 
@@ -222,3 +229,179 @@ not-idle p kp r xs i v e = made-worked r xs i v (p r xs i .sheet) (program-made 
 -- and none invents the count: the value is the sum after less the sum before
 pub not-invented : (p : ChangeProgram) → KeepsChange p → (r : Settings) (xs : List ℕ) (i v : ℕ) → p r xs i .answer ≡ Done v → v ≡ sum (p r xs i .sheet) - sum xs
 not-invented p kp r xs i v e = omega (arith, program-made p kp r xs i v e .raised)
+
+-- ---- one that works at stage 0 and only pretends later
+
+-- what a change that is made does on a staged sheet with d stages left, blocks bs and index blocks es
+pub record AtStage (r : Settings) (xs : List ℕ) (i d : ℕ) (bs : List ℕ) (es : List Entry) (q : ReadProgram) (ys : List ℕ) : Type 0 where
+  -- the bit's reading is that of the stage's decoding map
+  pub before : (b : ℕ) → readBit r xs b ≡ S.read (r .s) (r .m) (r .top) (staged d bs es) b
+  -- the sheet after is accepted; the named bit flips and no other moves
+  pub stays : Accepted r ys
+  pub flips : readBit r ys i ≡ 1 - S.read (r .s) (r .m) (r .top) (staged d bs es) i
+  pub keeps : (b : ℕ) → b < r .k → b ≢ i → readBit r ys b ≡ S.read (r .s) (r .m) (r .top) (staged d bs es) b
+  -- and every program that keeps the promise of read reads it so
+  pub seen : (out : List ℕ) → r .k ≤ length out → getD (q r ys out .places) i 0 ≡ 1 - getD (q r xs out .places) i 0
+
+-- at every stage from 1 up: where a program answers Done, the named bit's reading flips
+pub not-pretending : (p : ChangeProgram) (q : ReadProgram) → KeepsChange p → KeepsRead q → (r : Settings) → StagedFacts r → (xs : List ℕ) (i v d : ℕ) (bs : List ℕ) (es : List Entry) →
+    decode (r .s) (r .m) (r .top) (r .w) xs ≡ staged d bs es → p r xs i .answer ≡ Done v → AtStage r xs i d bs es q (p r xs i .sheet)
+unfolding readCells
+not-pretending p q kp kq r f xs i v d bs es e a =
+    let h : Made r xs i v (p r xs i .sheet) = program-made p kp r xs i v a in
+    let w : (b : ℕ) → readBit r xs b ≡ S.read (r .s) (r .m) (r .top) (staged d bs es) b = λ b. staged-read r f xs b ∙ ap (λ (x : Sheet). S.read (r .s) (r .m) (r .top) x b) e in
+    record {
+      before = w;
+      stays = h .changed .stays;
+      flips = h .changed .flips ∙ ap (λ (x : ℕ). 1 - x) (w i);
+      keeps = λ b l n. h .changed .keeps b l n ∙ w b;
+      seen = λ out l. reads-bit q kq r (p r xs i .sheet) out (h .changed .stays) l i (h .bit) ∙ h .changed .flips ∙ ap (λ (x : ℕ). 1 - x) (sym (reads-bit q kq r xs out (h .accepted) l i (h .bit)));
+    }
+
+-- demand 3's plain count
+abbrev pub plainCount : Settings → ℕ
+plainCount r = (r .m - r .k + 1) * r .k * r .top + r .k - 1
+
+-- a run of the plain maps on the m blocks is a run of calls on a staged sheet that stays at stage 0
+module _ (r : Settings) (p : StagedFacts r) (g : Genuine r) where
+  -- the cells of the m blocks
+  abbrev cells : ℕ
+  cells = r .m * 2 ^ r .s
+
+  -- they stand in the sheet
+  inside : cells ≤ r .n
+  inside = subst (λ (k : ℕ). r .m * k ≤ r .n) (sym (p .bits)) (omega (arith, p .inside))
+
+  -- the m blocks bs, and every cell after them 0
+  abbrev sheetOf : List ℕ → List ℕ
+  sheetOf bs = back r p (replicate (r .n) 0) (stage0 bs)
+
+  -- runs of the plain maps on the blocks
+  abbrev BlockRun : ℕ → List ℕ → Type 0
+  BlockRun = P.Run (2 ^ r .s) (r .top) (r .m) cells
+
+  -- they keep the blocks accepted
+  blocks-fit : {c : ℕ} {bs : List ℕ} → BlockRun c bs → P.Accepted (2 ^ r .s) (r .top) (r .m) cells bs
+  blocks-fit q = P.run-law (2 ^ r .s) (r .top) (r .m) cells (two r p) (p .top-least) (even r p) (le-refl cells) q .0
+
+  -- such a sheet is at stage 0
+  at-stage-0 : {c : ℕ} {bs : List ℕ} → BlockRun c bs → means r p (sheetOf bs) ≡ stage0 bs
+  at-stage-0 {bs = bs} q = stored r p .back (replicate (r .n) 0) (length-replicate (r .n) 0) (stored r p .clean) (stage0 bs) (blocks-fit q)
+      (subst (λ (x : Sheet). r .s - 1 ≤ stagesLeft (r .s) x) (sym (stored r p .blank)) (le-refl (r .s - 1)))
+
+  -- its cells after the blocks are those of the erased sheet
+  tail-same : {c : ℕ} {bs : List ℕ} → BlockRun c bs → drop cells (sheetOf bs) ≡ drop cells (replicate (r .n) 0)
+  tail-same {bs = bs} q = drop-at bs (drop cells (replicate (r .n) 0)) cells (blocks-fit q .long)
+
+  -- a change that the plain maps make is made
+  step-made : (c i : ℕ) (bs cs : List ℕ) → BlockRun c bs → R.change (2 ^ r .s) (r .top) (r .m) i bs ≡ done cs → changeSheet r (sheetOf bs) i ≡ done (sheetOf cs)
+  unfolding S.changeCells S.change
+  step-made c i bs cs q e =
+      staged-change r p (sheetOf bs) i
+      ∙ ap (λ (x : Sheet). S.written (back r p) (sheetOf bs) (S.change (r .s) (r .m) (r .top) i x)) (at-stage-0 q)
+      ∙ ap (λ (x : Result (List ℕ)). S.written (back r p) (sheetOf bs) (S.fromStage0 (r .s) (r .m) (r .top) bs (tabulate (2 ^ r .s) (S.after i (S.read (r .s) (r .m) (r .top) (stage0 bs)))) x)) e
+      ∙ ap (λ (t : List ℕ). done (cs ++ t)) (tail-same q)
+
+  -- so the run is one of calls
+  lifted : {c : ℕ} {bs : List ℕ} → BlockRun c bs → Run r c (sheetOf bs)
+  lifted P.begin = subst (Run r 0) (sym (ap (λ (t : List ℕ). t ++ drop cells (replicate (r .n) 0)) (sym (take-replicate cells (r .n) 0 inside)) ∙ take-append-drop cells (replicate (r .n) 0))) (blank-run r g)
+  lifted (P.more c i bs cs q l e) =
+      let t : Run r c (sheetOf bs) = lifted q in
+      subst (λ (o : Outcome). Run r (counted (o .answer) c) (o .sheet)) (done-answered r (sheetOf bs) (sheetOf cs) i (run-accepted r t) (subst (λ (k : ℕ). i < k) (p .bits) l) (step-made c i bs cs q e)) (call c i (sheetOf bs) t)
+
+-- where stage 0 ends: after as many changes as the plain count, the plain map has no place for bit 0
+pub record StageZeroEnd (r : Settings) : Type 0 where
+  pub blocks : List ℕ
+  pub sheet : List ℕ
+  pub run : Run r (plainCount r) sheet
+  pub stage : decode (r .s) (r .m) (r .top) (r .w) sheet ≡ stage0 blocks
+  pub stuck : R.change (2 ^ r .s) (r .top) (r .m) 0 blocks ≡ noPlace
+
+-- some run of calls gets there
+pub stage-zero-ends : (r : Settings) → StagedFacts r → Genuine r → StageZeroEnd r
+stage-zero-ends r p g =
+    let e : E.End (2 ^ r .s) (r .top) (r .m) (r .m * 2 ^ r .s) (two r p) (p .top-least) (even r p) (le-refl (r .m * 2 ^ r .s)) (many r p) =
+    E.tight (2 ^ r .s) (r .top) (r .m) (r .m * 2 ^ r .s) (two r p) (p .top-least) (even r p) (le-refl (r .m * 2 ^ r .s)) (many r p) in
+    let h : (r .m - r .k + 1) * (r .k * r .top) + (r .k - 1) ≡ plainCount r = omega (arith, staged-bits r p .0) in
+    let q : (r .m - 2 ^ r .s + 1) * (2 ^ r .s * r .top) + (2 ^ r .s - 1) ≡ plainCount r = ap (λ (k : ℕ). (r .m - k + 1) * (k * r .top) + (k - 1)) (p .bits) ∙ h in
+    record {
+      blocks = e .xs;
+      sheet = sheetOf r p g (e .xs);
+      run = subst (λ (c : ℕ). Run r c (sheetOf r p g (e .xs))) q (lifted r p g (e .run));
+      stage = at-stage-0 r p g (e .run);
+      stuck = e .out;
+    }
+
+-- a sheet at a stage from 1 up that has fewer than d stages left
+pub data Later (d : ℕ) : Sheet → Type 0 where
+  later-at : (e : ℕ) (bs : List ℕ) (es : List Entry) → e < d → Later d (staged e bs es)
+
+-- one stage fewer is fewer
+later-more : {d : ℕ} {x : Sheet} → Later d x → Later (suc d) x
+later-more (later-at e bs es l) = later-at e bs es (omega arith)
+
+-- the search for a later stage gives one
+later-found : (s m L d : ℕ) (bs vs : List ℕ) (y : Sheet) → S.later s m L d bs vs ≡ done y → Later d y
+later-found s m L zero bs vs y e = absurd (let z : _≡_ {A = ℕ} 0 1 = cc in omega arith)
+later-found s m L (suc d) bs vs y e = pick-elim (λ (q : Result Sheet). q ≡ done y → Later (suc d) y) (decLe (2 ^ s) (S.liveCount s m L d bs)) _ _
+    (λ _ q. let z : S.moveTo s m L d bs vs ≡ y = cc in subst (Later (suc d)) z (later-at d _ _ (le-refl (suc d))))
+    (λ _ q. later-more (later-found s m L d bs vs y q)) e
+
+-- where the plain map has no place at stage 0 and a program answers Done, the sheet after is at a later stage
+pub moves-on : (p : ChangeProgram) → KeepsChange p → (r : Settings) → StagedFacts r → (xs : List ℕ) (i v : ℕ) (bs : List ℕ) →
+    decode (r .s) (r .m) (r .top) (r .w) xs ≡ stage0 bs → R.change (2 ^ r .s) (r .top) (r .m) i bs ≡ noPlace → p r xs i .answer ≡ Done v →
+    Later (r .s - 1) (decode (r .s) (r .m) (r .top) (r .w) (p r xs i .sheet))
+unfolding S.changeCells S.change
+moves-on p kp r f xs i v bs e n a = go (S.change (r .s) (r .m) (r .top) i (means r f xs)) refl (sym (staged-change r f xs i) ∙ made .maps)
+  where
+    made : Made r xs i v (p r xs i .sheet)
+    made = program-made p kp r xs i v a
+
+    acc : T.Accepted (r .s) (r .m) (r .top) (means r f) (back r f) (r .n) (Clean r f) xs
+    acc = staged-is r f xs (made .accepted)
+
+    vs : List ℕ
+    vs = tabulate (2 ^ r .s) (S.after i (S.read (r .s) (r .m) (r .top) (stage0 bs)))
+
+    go : (q : Result Sheet) → S.change (r .s) (r .m) (r .top) i (means r f xs) ≡ q → S.written (back r f) xs q ≡ done (p r xs i .sheet) → Later (r .s - 1) (means r f (p r xs i .sheet))
+    go noPlace q w = absurd (let z : _≡_ {A = ℕ} 0 1 = cc in omega arith)
+    go (done y) q w =
+        let h : F.Changed (r .s) (r .m) (r .top) i (means r f xs) y =
+        subst (F.ReplyLaw (r .s) (r .m) (r .top) i (means r f xs)) q (F.reply-law (r .s) (r .m) (r .top) i (below r f (made .bit)) (f .top-least) (f .stages-least) (many r f) (means r f xs) (acc .fits)) in
+        let t : back r f xs y ≡ p r xs i .sheet = cc in
+        let m : means r f (p r xs i .sheet) ≡ y = ap (means r f) (sym t) ∙ stored r f .back xs (acc .long) (acc .clean) y (h .fits) (h .onward) in
+        let u : S.change (r .s) (r .m) (r .top) i (stage0 bs) ≡ done y = ap (S.change (r .s) (r .m) (r .top) i) (sym e) ∙ q in
+        let l : S.later (r .s) (r .m) (r .top) (r .s - 1) bs vs ≡ done y = sym (ap (S.fromStage0 (r .s) (r .m) (r .top) bs vs) n) ∙ u in
+        subst (Later (r .s - 1)) (sym m) (later-found (r .s) (r .m) (r .top) (r .s - 1) bs vs y l)
+
+-- what a program does on the sheet where stage 0 ends
+pub record GoesOn (p : ChangeProgram) (r : Settings) (z : StageZeroEnd r) : Type 0 where
+  pub raised : ℕ
+  pub answer : p r (z .sheet) 0 .answer ≡ Done raised
+  pub not-erase : p r (z .sheet) 0 .answer ≢ Erase
+  pub later : Later (r .s - 1) (decode (r .s) (r .m) (r .top) (r .w) (p r (z .sheet) 0 .sheet))
+
+-- where the plain count is below the guarantee, one that stops at stage 0 is refused: every program goes on to a later stage
+pub not-stopping : (p : ChangeProgram) → KeepsChange p → (r : Settings) → StagedFacts r → plainCount r < guarantee r → (z : StageZeroEnd r) → GoesOn p r z
+not-stopping p kp r f l z = go (changeSheet r (z .sheet) 0) refl
+  where
+    bit : 0 < r .k
+    bit = omega (arith, staged-bits r f .0)
+
+    never : changeCall r (z .sheet) 0 .answer ≢ Erase
+    never a = let h : guarantee r ≤ plainCount r = erase-late r (plainCount r) 0 (z .sheet) (z .run) a in omega arith
+
+    go : (q : Result (List ℕ)) → changeSheet r (z .sheet) 0 ≡ q → GoesOn p r z
+    go (done ys) e =
+        let a : p r (z .sheet) 0 .answer ≡ Done (sum ys - sum (z .sheet)) = ap (λ (o : Outcome). o .answer) (kp r (z .sheet) 0 ∙ done-answered r (z .sheet) ys 0 (run-accepted r (z .run)) bit e) in
+        record {
+          raised = sum ys - sum (z .sheet);
+          answer = a;
+          not-erase = λ x. never (sym (ap (λ (o : Outcome). o .answer) (kp r (z .sheet) 0)) ∙ x);
+          later = moves-on p kp r f (z .sheet) 0 (sum ys - sum (z .sheet)) (z .blocks) (z .stage) (z .stuck) a;
+        }
+    go noPlace e = absurd (never (erase-answered r (z .sheet) 0 (run-accepted r (z .run)) bit e))
+
+-- k = 4, L = 1: the two counts are equal for every m, so there demand 2 has to refuse it (not-pretending)
+pub counts-equal : (m : ℕ) → 4 ≤ m → (m - 4 + 1) * 4 * 1 + 4 - 1 ≡ m * 4 * 1 - 3 * (2 * 1 + 2 - 1)
+counts-equal m h = omega arith
