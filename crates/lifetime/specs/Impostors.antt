@@ -4,14 +4,14 @@ use mathlib.Core.Logic.{_≢_, _⊎_, inl, inr, ⊎-elim}
 use mathlib.Core.List.{List, [], _∷_, _++_}
 use Prim.Native.Nat.{ℕ, zero, suc, _+_, _-_, _*_, _^_, _%_, _≤_, _<_}
 use native.Mathlib.Nat.{le-refl, suc-inj, pow-suc}
-use native.Mathlib.Decide.{decLe}
+use native.Mathlib.Decide.{ℕ-discrete, decLe}
 use native.Mathlib.Omega.{arith}
 use lib.ListN.{length, getD, drop, replicate, length-replicate, take-append-drop}
 use lib.Seq.{drop-at}
+use lib.Pow.{pow-mono}
 use Rattle.rules.specs.Search.{Result, done, noPlace}
 use Rattle.rules.specs.SearchLaws.{pick-elim}
 use Rattle.rules.specs.Cells.{sum, Rises, tabulate}
-use Rattle.rules.specs.Block.{State, active, empty}
 use Rattle.rules.specs.Plain.{HasBit, states}
 use Rattle.rules.specs.Plain as R
 use Rattle.rules.specs.Stage.{Entry}
@@ -19,13 +19,12 @@ use Rattle.rules.specs.Staged.{Sheet, stage0, staged, readCells}
 use Rattle.rules.specs.Staged as S
 use Rattle.rules.specs.Batches.{decode}
 use Rattle.rules.specs.Accept.{accept, Genuine, guarantee}
-use Rattle.rules.specs.AcceptLaws.{PlainFacts, StagedFacts, genuine-facts, genuine-plain, staged-bits, guarantee-pos, accept-genuine}
-use Rattle.rules.specs.Calls.{readBit, bitsOf, changeSheet, settingsCall, Outcome, eraseCall, changeCall, Reading, readCall}
-use Rattle.rules.specs.Promises.{outcome, readOut, ErasePromise, ChangePromise, ReadPromise}
+use Rattle.rules.specs.AcceptLaws.{StagedFacts, genuine-facts, genuine-plain, staged-bits, guarantee-staged, guarantee-pos, accept-genuine}
+use Rattle.rules.specs.Calls.{readBit, bitsOf, changeSheet, settingsCall, Outcome, changeCall, Reading, readCall}
+use Rattle.rules.specs.Promises.{ErasePromise, ChangePromise, ReadPromise}
 use Rattle.rules.specs.Numbers.{marked}
 use Rattle.rules.specs.declared.Settings.{Settings}
 use Rattle.rules.specs.declared.Setup.{Setup}
-use Rattle.rules.specs.declared.Answer.{Answer}
 use Rattle.rules.specs.declared.Answer.the-variants.{Done, Erase}
 use Rattle.laws.specs.Lists.{rises-sum, take-replicate}
 use Rattle.laws.specs.PlainMaps.{Reads, from, none, bit-is}
@@ -35,7 +34,7 @@ use Rattle.lifetime.specs.Tight as E
 use Rattle.lifetime.specs.Storage as T
 use Rattle.lifetime.specs.Staged as F
 use Rattle.lifetime.specs.Staged.{stagesLeft}
-use Rattle.lifetime.specs.Change.{Changed, Made, change-made, sheet-changed, erased-accepted, erase-answered, done-answered, plain-read, plain-law, staged-read, staged-change, means, back, Clean, many, below, stored, staged-is}
+use Rattle.lifetime.specs.Change.{Changed, Made, change-made, sheet-changed, erased-accepted, erase-tells, erase-answered, done-answered, plain-read, plain-law, staged-read, staged-change, means, back, Clean, many, below, stored, staged-is, NoPlaceLeft, erase-exactly}
 use Rattle.lifetime.specs.Run.{counted, Run, begin, call, blank-run, run-accepted, erase-late}
 use Rattle.lifetime.specs.Refusals.{bit-two, ReadDone, read-gives, read-done-places}
 
@@ -258,6 +257,10 @@ not-pretending p q kp kq r f xs i v d bs es e a =
       seen = λ out l. reads-bit q kq r (p r xs i .sheet) out (h .changed .stays) l i (h .bit) ∙ h .changed .flips ∙ ap (λ (x : ℕ). 1 - x) (sym (reads-bit q kq r xs out (h .accepted) l i (h .bit)));
     }
 
+-- and at every stage Erase is answered only where an existing bit has no place, in this stage or a later one
+pub erase-only : (p : ChangeProgram) → KeepsChange p → (r : Settings) (xs : List ℕ) (i : ℕ) → p r xs i .answer ≡ Erase → Accepted r xs × (i < r .k) × NoPlaceLeft r xs i
+erase-only p kp r xs i a = erase-exactly r xs i .0 (sym (ap (λ (o : Outcome). o .answer) (kp r xs i)) ∙ a)
+
 -- demand 3's plain count
 abbrev pub plainCount : Settings → ℕ
 plainCount r = (r .m - r .k + 1) * r .k * r .top + r .k - 1
@@ -280,18 +283,18 @@ module _ (r : Settings) (p : StagedFacts r) (g : Genuine r) where
   abbrev BlockRun : ℕ → List ℕ → Type 0
   BlockRun = P.Run (2 ^ r .s) (r .top) (r .m) cells
 
-  -- they keep the blocks accepted
-  blocks-fit : {c : ℕ} {bs : List ℕ} → BlockRun c bs → P.Accepted (2 ^ r .s) (r .top) (r .m) cells bs
-  blocks-fit q = P.run-law (2 ^ r .s) (r .top) (r .m) cells (two r p) (p .top-least) (even r p) (le-refl cells) q .0
+  -- they keep the blocks accepted, and their levels sum to the number of changes
+  blocks-law : {c : ℕ} {bs : List ℕ} → BlockRun c bs → P.Accepted (2 ^ r .s) (r .top) (r .m) cells bs × (sum bs ≡ c)
+  blocks-law q = P.run-law (2 ^ r .s) (r .top) (r .m) cells (two r p) (p .top-least) (even r p) (le-refl cells) q
 
   -- such a sheet is at stage 0
   at-stage-0 : {c : ℕ} {bs : List ℕ} → BlockRun c bs → means r p (sheetOf bs) ≡ stage0 bs
-  at-stage-0 {bs = bs} q = stored r p .back (replicate (r .n) 0) (length-replicate (r .n) 0) (stored r p .clean) (stage0 bs) (blocks-fit q)
+  at-stage-0 {bs = bs} q = stored r p .back (replicate (r .n) 0) (length-replicate (r .n) 0) (stored r p .clean) (stage0 bs) (blocks-law q .0)
       (subst (λ (x : Sheet). r .s - 1 ≤ stagesLeft (r .s) x) (sym (stored r p .blank)) (le-refl (r .s - 1)))
 
   -- its cells after the blocks are those of the erased sheet
   tail-same : {c : ℕ} {bs : List ℕ} → BlockRun c bs → drop cells (sheetOf bs) ≡ drop cells (replicate (r .n) 0)
-  tail-same {bs = bs} q = drop-at bs (drop cells (replicate (r .n) 0)) cells (blocks-fit q .long)
+  tail-same {bs = bs} q = drop-at bs (drop cells (replicate (r .n) 0)) cells (blocks-law q .0 .long)
 
   -- a change that the plain maps make is made
   step-made : (c i : ℕ) (bs cs : List ℕ) → BlockRun c bs → R.change (2 ^ r .s) (r .top) (r .m) i bs ≡ done cs → changeSheet r (sheetOf bs) i ≡ done (sheetOf cs)
@@ -315,6 +318,7 @@ pub record StageZeroEnd (r : Settings) : Type 0 where
   pub sheet : List ℕ
   pub run : Run r (plainCount r) sheet
   pub stage : decode (r .s) (r .m) (r .top) (r .w) sheet ≡ stage0 blocks
+  pub levels : sum blocks ≡ plainCount r
   pub stuck : R.change (2 ^ r .s) (r .top) (r .m) 0 blocks ≡ noPlace
 
 -- some run of calls gets there
@@ -329,6 +333,7 @@ stage-zero-ends r p g =
       sheet = sheetOf r p g (e .xs);
       run = subst (λ (c : ℕ). Run r c (sheetOf r p g (e .xs))) q (lifted r p g (e .run));
       stage = at-stage-0 r p g (e .run);
+      levels = blocks-law r p g (e .run) .1 ∙ q;
       stuck = e .out;
     }
 
@@ -381,15 +386,12 @@ pub record GoesOn (p : ChangeProgram) (r : Settings) (z : StageZeroEnd r) : Type
   pub not-erase : p r (z .sheet) 0 .answer ≢ Erase
   pub later : Later (r .s - 1) (decode (r .s) (r .m) (r .top) (r .w) (p r (z .sheet) 0 .sheet))
 
--- where the plain count is below the guarantee, one that stops at stage 0 is refused: every program goes on to a later stage
-pub not-stopping : (p : ChangeProgram) → KeepsChange p → (r : Settings) → StagedFacts r → plainCount r < guarantee r → (z : StageZeroEnd r) → GoesOn p r z
-not-stopping p kp r f l z = go (changeSheet r (z .sheet) 0) refl
+-- where Erase is not answered there, every program goes on to a later stage
+goes-on : (p : ChangeProgram) → KeepsChange p → (r : Settings) → StagedFacts r → (z : StageZeroEnd r) → changeCall r (z .sheet) 0 .answer ≢ Erase → GoesOn p r z
+goes-on p kp r f z never = go (changeSheet r (z .sheet) 0) refl
   where
     bit : 0 < r .k
     bit = omega (arith, staged-bits r f .0)
-
-    never : changeCall r (z .sheet) 0 .answer ≢ Erase
-    never a = let h : guarantee r ≤ plainCount r = erase-late r (plainCount r) 0 (z .sheet) (z .run) a in omega arith
 
     go : (q : Result (List ℕ)) → changeSheet r (z .sheet) 0 ≡ q → GoesOn p r z
     go (done ys) e =
@@ -402,6 +404,94 @@ not-stopping p kp r f l z = go (changeSheet r (z .sheet) 0) refl
         }
     go noPlace e = absurd (never (erase-answered r (z .sheet) 0 (run-accepted r (z .run)) bit e))
 
--- k = 4, L = 1: the two counts are equal for every m, so there demand 2 has to refuse it (not-pretending)
+-- by demand 3: where the plain count is below the guarantee, one that stops at stage 0 is refused
+pub not-stopping-by-count : (p : ChangeProgram) → KeepsChange p → (r : Settings) → StagedFacts r → plainCount r < guarantee r → (z : StageZeroEnd r) → GoesOn p r z
+not-stopping-by-count p kp r f l z = goes-on p kp r f z (λ a. let h : guarantee r ≤ plainCount r = erase-late r (plainCount r) 0 (z .sheet) (z .run) a in omega arith)
+
+-- with m = t + k, k = j + 4 and L = l + 1: the levels at the end of stage 0 are fewer than where no later stage is left
+levels-below : (t j l : ℕ) → ¬ ((t + (j + 4)) * ((j + 4) * (l + 1)) ≤ (t + 1) * ((j + 4) * (l + 1)) + (j + 3) + (j + 3) * (2 * (l + 1)))
+levels-below t j l h = omega arith
+
+-- so it is for any m, k and L of a staged sheet
+levels-few : (m k L : ℕ) → 4 ≤ k → k ≤ m → 1 ≤ L → ¬ (m * (k * L) ≤ (m - k + 1) * (k * L) + (k - 1) + (k - 1) * (2 * L))
+levels-few m k L h g l =
+    let e : k - 4 + 4 ≡ k = omega arith in
+    let e₁ : k - 4 + 3 ≡ k - 1 = omega arith in
+    let e₂ : L - 1 + 1 ≡ L = omega arith in
+    let e₃ : m - k + k ≡ m = omega arith in
+    rw (e, e₁, e₂, e₃) at (levels-below (m - k) (k - 4) (L - 1))
+
+-- by demand 2: where stage 0 ends there is a later stage, so Erase is not answered
+pub stage-zero-room : (r : Settings) → StagedFacts r → (z : StageZeroEnd r) → changeCall r (z .sheet) 0 .answer ≢ Erase
+unfolding S.changeCells
+stage-zero-room r f z a = go (S.change (r .s) (r .m) (r .top) 0 (means r f (z .sheet))) refl (sym (staged-change r f (z .sheet) 0) ∙ erase-tells r (z .sheet) 0 a .maps)
+  where
+    go : (q : Result Sheet) → S.change (r .s) (r .m) (r .top) 0 (means r f (z .sheet)) ≡ q → S.written (back r f) (z .sheet) q ≡ noPlace → ⊥
+    go (done y) q w = let z : _≡_ {A = ℕ} 0 1 = cc in omega arith
+    go noPlace q w =
+        let b : r .m * 2 ^ r .s * r .top ≤ F.levels (means r f (z .sheet)) + (2 ^ r .s - 1) * (2 * r .top) =
+        subst (F.ReplyLaw (r .s) (r .m) (r .top) 0 (means r f (z .sheet))) q
+        (F.reply-law (r .s) (r .m) (r .top) 0 (omega (arith, two r f)) (f .top-least) (f .stages-least) (many r f) (means r f (z .sheet)) (staged-is r f (z .sheet) (run-accepted r (z .run)) .fits)) in
+        let c : r .m * r .k * r .top ≤ F.levels (means r f (z .sheet)) + (r .k - 1) * (2 * r .top) =
+        subst (λ (k : ℕ). r .m * k * r .top ≤ F.levels (means r f (z .sheet)) + (k - 1) * (2 * r .top)) (f .bits) b in
+        levels-few (r .m) (r .k) (r .top) (staged-bits r f .0) (f .room) (f .top-least) (omega (arith, ap F.levels (z .stage), z .levels, staged-bits r f .0))
+
+-- so whatever the accepted staged settings, one that stops at stage 0 is refused
+pub not-stopping : (p : ChangeProgram) → KeepsChange p → (r : Settings) → StagedFacts r → (z : StageZeroEnd r) → GoesOn p r z
+not-stopping p kp r f z = goes-on p kp r f z (stage-zero-room r f z)
+
+-- k = 4, L = 1: the two counts are equal for every m, so there demand 2 has to refuse it (not-stopping, not-pretending)
 pub counts-equal : (m : ℕ) → 4 ≤ m → (m - 4 + 1) * 4 * 1 + 4 - 1 ≡ m * 4 * 1 - 3 * (2 * 1 + 2 - 1)
 counts-equal m h = omega arith
+
+-- so it is for such settings
+pub four-counts-equal : (r : Settings) → StagedFacts r → r .k ≡ 4 → r .top ≡ 1 → plainCount r ≡ guarantee r
+four-counts-equal r p e f =
+    let q : ¬ (3 ≤ r .s) = λ h. omega (arith, pow-mono h, p .bits) in
+    let s : r .s ≡ 2 = omega (arith, p .stages-least) in
+    let c : (r .m - 4 + 1) * 4 * 1 + 4 - 1 ≡ r .m * 4 * 1 - 3 * (2 * 1 + 2 - 1) = counts-equal (r .m) (omega (arith, p .room)) in
+    rw (guarantee-staged r p, e, f, s) c
+
+-- the staged guarantee is above the plain count, with m = t + k
+abbrev Above : ℕ → ℕ → ℕ → ℕ → Type 0
+Above s k t L = (t + 1) * k * L + k - 1 < (t + k) * k * L - (k - 1) * (2 * L + s - 1)
+
+above-4 : (t L : ℕ) → 2 ≤ L → Above 2 4 t L
+above-4 t L h = omega arith
+
+above-8 : (t L : ℕ) → 1 ≤ L → Above 3 8 t L
+above-8 t L h = omega arith
+
+above-16 : (t L : ℕ) → 1 ≤ L → Above 4 16 t L
+above-16 t L h = omega arith
+
+above-32 : (t L : ℕ) → 1 ≤ L → Above 5 32 t L
+above-32 t L h = omega arith
+
+above-64 : (t L : ℕ) → 1 ≤ L → Above 6 64 t L
+above-64 t L h = omega arith
+
+-- for every staged k but 4 with L = 1
+above-all : (s t L : ℕ) → 2 ≤ s → s ≤ 6 → 1 ≤ L → ((s ≡ 2) × (L ≡ 1)) ⊎ Above s (2 ^ s) t L
+above-all zero t L h g l = absurd (omega arith)
+above-all (suc zero) t L h g l = absurd (omega arith)
+above-all (suc (suc zero)) t L h g l = go (ℕ-discrete L 1)
+  where
+    go : Dec (L ≡ 1) → (_≡_ {A = ℕ} 2 2 × (L ≡ 1)) ⊎ Above 2 4 t L
+    go (yes e) = inl (refl, e)
+    go (no n) = inr (above-4 t L (omega arith))
+above-all (suc (suc (suc zero))) t L h g l = inr (above-8 t L l)
+above-all (suc (suc (suc (suc zero)))) t L h g l = inr (above-16 t L l)
+above-all (suc (suc (suc (suc (suc zero))))) t L h g l = inr (above-32 t L l)
+above-all (suc (suc (suc (suc (suc (suc zero)))))) t L h g l = inr (above-64 t L l)
+above-all (suc (suc (suc (suc (suc (suc (suc s))))))) t L h g l = absurd (omega arith)
+
+-- so for every accepted staged settings: k = 4 and L = 1, or the plain count is below the guarantee
+pub counts-apart : (r : Settings) → StagedFacts r → ((r .k ≡ 4) × (r .top ≡ 1)) ⊎ (plainCount r < guarantee r)
+counts-apart r p = ⊎-elim (λ a. inl (sym (p .bits) ∙ ap (λ (s : ℕ). 2 ^ s) (a .0), a .1)) (λ b. inr (above b)) (above-all (r .s) (r .m - r .k) (r .top) (p .stages-least) (p .stages-most) (p .top-least))
+  where
+    above : Above (r .s) (2 ^ r .s) (r .m - r .k) (r .top) → plainCount r < guarantee r
+    above b =
+        let c : Above (r .s) (r .k) (r .m - r .k) (r .top) = subst (λ (k : ℕ). Above (r .s) k (r .m - r .k) (r .top)) (p .bits) b in
+        let e : r .m - r .k + r .k ≡ r .m = omega (arith, p .room) in
+        subst (λ (x : ℕ). plainCount r < x) (sym (guarantee-staged r p)) (subst (λ (m : ℕ). plainCount r < m * r .k * r .top - (r .k - 1) * (2 * r .top + r .s - 1)) e c)
