@@ -52,7 +52,7 @@ module _ (r : Settings) (p : PlainFacts r) where
     sound = sound-plain r p xs (P.lawful-blocks (r .k) (r .top) (r .m) xs (a .lawful), a .spare);
   }
 
-  plain-law : (i : ℕ) (xs ys : List ℕ) → Accepted r xs → i < r .k → changeSheet r xs i ≡ done ys → P.Changed (r .k) (r .top) (r .m) (r .n) i xs ys
+  pub plain-law : (i : ℕ) (xs ys : List ℕ) → Accepted r xs → i < r .k → changeSheet r xs i ≡ done ys → P.Changed (r .k) (r .top) (r .m) (r .n) i xs ys
   plain-law i xs ys a l e =
       P.change-law (r .k) (r .top) (r .m) (r .n) (p .bits-least) (p .top-least) (p .even) (p .inside) i l xs (plain-is xs a) ys (sym (plain-change r p xs i) ∙ e)
 

@@ -9,3 +9,6 @@ pub mod Batches
 pub mod Change
 pub mod Place
 pub mod Run
+pub mod OneOutcome
+pub mod Refusals
+pub mod Impostors

@@ -74,7 +74,7 @@ module _ (r : Settings) (Q : ℕ → List ℕ → Type 0) (blank : Genuine r →
   runs (call c i xs q) = called c i xs (runs q) (change-is r xs i)
 
 -- the erased sheet begins a run
-blank-run : (r : Settings) → Genuine r → Run r 0 (replicate (r .n) 0)
+pub blank-run : (r : Settings) → Genuine r → Run r 0 (replicate (r .n) 0)
 unfolding eraseCall
 blank-run r g =
     let e : eraseChecks r (replicate (r .n) 0) ≡ Pass = erase-passes r (replicate (r .n) 0) g (length-replicate (r .n) 0) in

@@ -29,12 +29,12 @@ use Rattle.rules.specs.Plain as R
 
 -- ---- accepted sheets and the law of a change
 
-getD-tabulate : (n y : ℕ) (f : ℕ → ℕ) → y < n → getD (tabulate n f) y 0 ≡ f y
+pub getD-tabulate : (n y : ℕ) (f : ℕ → ℕ) → y < n → getD (tabulate n f) y 0 ≡ f y
 getD-tabulate zero y f h = absurd (not-suc-le-zero h)
 getD-tabulate (suc n) zero f h = refl
 getD-tabulate (suc n) (suc y) f h = getD-tabulate n y (λ j. f (suc j)) (le-of-suc-le-suc h)
 
-length-tabulate : (n : ℕ) (f : ℕ → ℕ) → length (tabulate n f) ≡ n
+pub length-tabulate : (n : ℕ) (f : ℕ → ℕ) → length (tabulate n f) ≡ n
 length-tabulate zero f = refl
 length-tabulate (suc n) f = ap suc (length-tabulate n (λ j. f (suc j)))
 
@@ -189,7 +189,7 @@ module _ (s m L : ℕ) where
         mul-le-mul-right {m = length (liveWeights W (parityBlocks s m 0 xs))} {n = 2 ^ s - 1} W (omega arith),
       )
 
-  read-two : (x : Sheet) (y : ℕ) → read s m L x y < 2
+  pub read-two : (x : Sheet) (y : ℕ) → read s m L x y < 2
   unfolding read
   read-two (stage0 xs) y = P.read-two (2 ^ s) L m xs y
   read-two (staged d xs es) y = mod-lt (weightOf (suc y) (indexes es) (liveWeights (parityLength d * L) (parityBlocks s m d xs))) (omega arith)
