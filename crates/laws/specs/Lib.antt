@@ -15,3 +15,4 @@ pub mod Halve
 pub mod Parity
 pub mod Calls
 pub mod Kinds
+pub mod Splice

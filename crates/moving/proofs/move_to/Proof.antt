@@ -1,0 +1,244 @@
+-- `moving::move_to` meets its contract: block after block the sheet is the one that the rules make of the blocks met. Assumes nothing.
+use mathlib.Core.Logic.{_≢_}
+use mathlib.Core.Path.{_≡_, _∙_, ap, sym}
+use Prim.Native.Nat.{ℕ, _+_, _-_, _*_, _≤_}
+use native.Mathlib.Omega.{arith}
+use borrow.Rule.Slice.PartMut.{putMid}
+use lib.ListN.{getD, length, take, length-drop, length-take}
+use Rattle.laws.specs.Splice.{part}
+use Rattle.rules.specs.Cells.{sum}
+use Rattle.moving.specs.Meaning.{Going}
+use Rattle.moving.specs.GoingLaws.{block-inside, going-first, going-full, going-live, index-blank, index-room, live-asks, met-few, next-few, rest-room, same-long}
+use Rattle.moving.specs.EndLaws.{all-met, bytes-small, length-filled, move-done, move-sum}
+use Rattle.moving.specs.RecordLaws.{full-small}
+use borrow.Author.Needs.{needs}
+use Rattle.moving.proofs.move_to.Statement.{statement}
+use Rattle.moving.proofs.move_to.Tie as tie
+use Rattle.moving.proofs.move_to.Reads as reads
+use Rattle.moving.proofs.move_to.Lts as lts
+use Rattle.block.proofs.sum_of.Reads as sum-of-reads
+use Rattle.moving.proofs.record_live.Reads as record-live-reads
+use Rattle.staged.proofs.fill.Reads as fill-reads
+
+abbrev Inv-loop : tie.InvT-loop
+Inv-loop sheet₀ at len count w k top values full raised₀ live₀ j₀ sheet raised live j = Going at len count w top (take k values) sheet₀ sheet raised live j
+
+abbrev μ-loop : tie.MeasureT-loop
+μ-loop sheet₀ at len count w k top values full raised₀ live₀ j₀ sheet raised live j = count - j
+
+mul-full : tie.Need-mul-full Inv-loop μ-loop
+mul-full c = omega (arith, full-small (c .before .args .len) (c .before .args .top) (c .before .pre .small) (omega arith))
+
+loop-holds : tie.Need-loop-holds Inv-loop μ-loop
+loop-holds c =
+    let a = c .before .args in
+    going-first (a .at) (a .len) (a .count) (a .w) (a .top) (take (a .k) (a .values)) (a .sheet .now)
+
+-- in a turn the block lies in the sheet
+inside : (c : tie.In-loop Inv-loop μ-loop) → c .before .loop .j * c .before .before .before .args .len + c .before .before .before .args .len ≤ length (c .before .loop .sheet)
+inside c = block-inside (c .before .before .before .pre) (c .before .loop .inv) (c .loop-test .taken)
+
+-- and the sheet is not too long
+long : (c : tie.In-loop Inv-loop μ-loop) → length (c .before .loop .sheet) ≤ 65536
+long c = omega (arith, same-long (c .before .before .before .pre) (c .before .loop .inv))
+
+mul-a : tie.Need-mul-a Inv-loop μ-loop
+mul-a c = omega (arith, inside c, long c)
+
+add-e : tie.Need-add-e Inv-loop μ-loop
+add-e c = omega (arith, inside c, long c)
+
+add-j : tie.Need-add-j Inv-loop μ-loop
+add-j c = search needs
+
+sub-sum-of : tie.Need-sub-sum-of Inv-loop μ-loop
+sub-sum-of c = search needs
+
+part-sum-of-start : tie.Need-part-sum-of-start Inv-loop μ-loop
+part-sum-of-start c = search needs
+
+part-sum-of-end : tie.Need-part-sum-of-end Inv-loop μ-loop
+part-sum-of-end c = omega (arith, inside (c .before))
+
+sum-of-requires : tie.Need-sum-of-requires Inv-loop μ-loop
+sum-of-requires c κs =
+    let o = c .before .before in
+    let a = o .before .before .before .args in
+    simp (length-take, length-drop) (omega (arith, inside o, long o))
+
+loop-less : tie.Need-loop-less Inv-loop μ-loop
+loop-less c = search needs
+
+loop-again : tie.Need-loop-again Inv-loop μ-loop
+loop-again c =
+    let o = c .before .before .before .before in
+    let l = o .before .loop in
+    let a = o .before .before .before .args in
+    let q : l .j * a .len + a .len - l .j * a .len ≡ a .len = omega arith in
+    going-full (o .before .before .before .pre) (l .inv) (o .loop-test .taken) (rw q at (sym (c .before .sum-of .ensures) ∙ c .if1 .taken))
+
+mul-record-live : tie.Need-mul-record-live Inv-loop μ-loop
+mul-record-live c = omega (arith, index-room (c .before .before .before .before .before .before .before .before .pre) (c .before .before .before .before .before .before .loop .inv))
+
+add-record-live : tie.Need-add-record-live Inv-loop μ-loop
+add-record-live c = omega (arith, index-room (c .before .before .before .before .before .before .before .before .pre) (c .before .before .before .before .before .before .loop .inv))
+
+-- and the block is live
+alive : (c : tie.After-record-live-arg Inv-loop μ-loop)
+    → sum (part (c .before .before .before .before .before .before .loop .j * c .before .before .before .before .before .before .before .before .args .len) (c .before .before .before .before .before .before .before .before .args .len) (c .before .before .before .before .before .before .loop .sheet))
+    ≢ c .before .before .before .before .before .before .before .before .args .len * c .before .before .before .before .before .before .before .before .args .top
+alive c e =
+    let l = c .before .before .before .before .before .before .loop in
+    let a = c .before .before .before .before .before .before .before .before .args in
+    let q : l .j * a .len + a .len - l .j * a .len ≡ a .len = omega arith in
+    c .before .if1 .left ((rw q at (c .before .before .sum-of .ensures)) ∙ e)
+
+record-live-requires : tie.Need-record-live-requires Inv-loop μ-loop
+record-live-requires c κs =
+    let o = c .before .before .before .before .before in
+    let g = o .before .before .before .pre in
+    let i = o .before .loop .inv in
+    (live-asks g i (o .loop-test .taken) (alive c), (g .few, omega (arith, g .wide), index-blank g i (o .loop-test .taken) (alive c)))
+
+loop-again-2 : tie.Need-loop-again-2 Inv-loop μ-loop
+loop-again-2 c =
+    let o = c .before .before .before .before .before .before .before .before in
+    let r = c .before .before .record-live in
+    going-live (o .before .before .before .pre) (o .before .loop .inv) (o .loop-test .taken) (alive (c .before .before .before)) (r .last .0) (r .result) (r .ensures .0) (r .ensures .1)
+
+add-raised : tie.Need-add-raised Inv-loop μ-loop
+add-raised c =
+    let g = c .before .before .before .before .before .before .before .before .before .before .before .pre in
+    omega (arith, loop-again-2 c .each, met-few g (loop-again-2 c), g .few)
+
+add-live : tie.Need-add-live Inv-loop μ-loop
+add-live c =
+    let g = c .before .before .before .before .before .before .before .before .before .before .before .pre in
+    omega (arith, met-few g (loop-again-2 c), g .few)
+
+loop-less-2 : tie.Need-loop-less-2 Inv-loop μ-loop
+loop-less-2 c = search needs
+
+mul-rest : tie.Need-mul-rest Inv-loop μ-loop
+mul-rest c = omega (arith, index-room (c .before .before .before .pre) (c .before .loop .inv))
+
+add-rest : tie.Need-add-rest Inv-loop μ-loop
+add-rest c = omega (arith, index-room (c .before .before .before .pre) (c .before .loop .inv))
+
+sub-end : tie.Need-sub-end Inv-loop μ-loop
+sub-end c = search needs
+
+mul-end : tie.Need-mul-end Inv-loop μ-loop
+mul-end c = omega arith
+
+mul-end-2 : tie.Need-mul-end-2 Inv-loop μ-loop
+mul-end-2 c = omega (arith, c .before .before .before .pre .inside)
+
+add-end : tie.Need-add-end Inv-loop μ-loop
+add-end c = omega (arith, c .before .before .before .pre .inside)
+
+sub-fill : tie.Need-sub-fill Inv-loop μ-loop
+sub-fill c = omega (arith, rest-room (c .before .before .before .pre) (c .before .loop .inv))
+
+part-fill-start : tie.Need-part-fill-start Inv-loop μ-loop
+part-fill-start c = omega (arith, rest-room (c .before .before .before .pre) (c .before .loop .inv))
+
+part-fill-end : tie.Need-part-fill-end Inv-loop μ-loop
+part-fill-end c = omega (arith, same-long (c .before .before .before .pre) (c .before .loop .inv))
+
+fill-requires : tie.Need-fill-requires Inv-loop μ-loop
+fill-requires c κs = search needs
+
+sub-sum-of-2 : tie.Need-sub-sum-of-2 Inv-loop μ-loop
+sub-sum-of-2 c = search needs
+
+part-sum-of-start-2 : tie.Need-part-sum-of-start-2 Inv-loop μ-loop
+part-sum-of-start-2 c = search needs
+
+part-sum-of-end-2 : tie.Need-part-sum-of-end-2 Inv-loop μ-loop
+part-sum-of-end-2 c =
+    let o = c .before .before .before .before .before .before in
+    let a = o .before .before .args in
+    let g = o .before .before .pre in
+    let i = all-met (o .loop .inv) (c .before .before .before .before .before .loop-test .left) in
+    let q : a .at + 2 * (a .k - 1) * a .w - (a .at + o .loop .live * a .w) + o .loop .live * a .w ≡ 2 * (a .k - 1) * a .w = omega (arith, rest-room g i) in
+    let y = c .before .before .before .fill in
+    omega (arith, g .inside, length-filled (a .at) (a .len) (a .count) (a .w) (a .k) (a .top) (take (a .k) (a .values)) (a .sheet .now) g i _ q (y .last .0) (y .ensures))
+
+sum-of-requires-2 : tie.Need-sum-of-requires-2 Inv-loop μ-loop
+sum-of-requires-2 c κs = search needs
+
+add-result : tie.Need-add-result Inv-loop μ-loop
+add-result c =
+    let o = c .before .before .before .before .before .before .before .before in
+    let a = o .before .before .args in
+    let g = o .before .before .pre in
+    let n : a .at + 2 * (a .k - 1) * a .w - a .at ≤ 65536 = omega (arith, g .inside, g .short) in
+    let f = putMid (a .at + o .loop .live * a .w) (a .at + 2 * (a .k - 1) * a .w - (a .at + o .loop .live * a .w)) (o .loop .sheet) (c .before .before .before .before .before .fill .last .0) in
+    let h : (x : ℕ) → getD f x 0 ≤ 255 = λ x. omega (arith, c .before .before .before .slice-known3 .given x) in
+    omega (arith, g .few, o .loop .inv .each, met-few g (o .loop .inv), bytes-small (a .at) (a .at + 2 * (a .k - 1) * a .w - a .at) f h n, c .sum-of2 .ensures)
+
+same-length : tie.Need-same-length Inv-loop μ-loop
+same-length c =
+    let o = c .before .before .before .before .before .before .before .before in
+    let a = o .before .before .args in
+    let g = o .before .before .pre in
+    let i = all-met (o .loop .inv) (c .before .before .before .before .before .before .before .loop-test .left) in
+    let q : a .at + 2 * (a .k - 1) * a .w - (a .at + o .loop .live * a .w) + o .loop .live * a .w ≡ 2 * (a .k - 1) * a .w = omega (arith, rest-room g i) in
+    let y = c .before .before .before .before .before .fill in
+    length-filled (a .at) (a .len) (a .count) (a .w) (a .k) (a .top) (take (a .k) (a .values)) (a .sheet .now) g i _ q (y .last .0) (y .ensures)
+
+returns : tie.Need-returns Inv-loop μ-loop
+returns c =
+    let o = c .before .before .before .before .before .before .before .before in
+    let a = o .before .before .args in
+    let g = o .before .before .pre in
+    let i = all-met (o .loop .inv) (c .before .before .before .before .before .before .before .loop-test .left) in
+    let q : a .at + 2 * (a .k - 1) * a .w - (a .at + o .loop .live * a .w) + o .loop .live * a .w ≡ 2 * (a .k - 1) * a .w = omega (arith, rest-room g i) in
+    let y = c .before .before .before .before .before .fill in
+    let p : a .at + 2 * (a .k - 1) * a .w - a .at ≡ 2 * (a .k - 1) * a .w = omega arith in (
+      move-done (a .at) (a .len) (a .count) (a .w) (a .k) (a .top) (take (a .k) (a .values)) (a .sheet .now) g i _ q (y .last .0) (y .ensures),
+      move-sum (a .at) (a .len) (a .count) (a .w) (a .k) (a .top) (take (a .k) (a .values)) (a .sheet .now) g i _ q (y .last .0) (y .ensures) (c .sum-of2 .result) (rw p at (c .sum-of2 .ensures)),
+    )
+
+pub move-to-spec : {M : Type 1} → statement M
+move-to-spec =
+    tie.close
+    (tie.spec
+    Inv-loop
+    μ-loop
+    mul-full
+    loop-holds
+    mul-a
+    add-e
+    add-j
+    sub-sum-of
+    part-sum-of-start
+    part-sum-of-end
+    sum-of-requires
+    loop-less
+    loop-again
+    mul-record-live
+    add-record-live
+    record-live-requires
+    add-raised
+    add-live
+    loop-less-2
+    loop-again-2
+    mul-rest
+    add-rest
+    sub-end
+    mul-end
+    mul-end-2
+    add-end
+    sub-fill
+    part-fill-start
+    part-fill-end
+    fill-requires
+    sub-sum-of-2
+    part-sum-of-start-2
+    part-sum-of-end-2
+    sum-of-requires-2
+    add-result
+    same-length
+    returns)

@@ -1,0 +1,65 @@
+-- `moving::record_live` meets its contract: with no value left nothing moves, else the next value is recorded. Assumes nothing.
+use mathlib.Core.Path.{_∙_}
+use Prim.Native.Nat.{_≤_, _<_}
+use native.Mathlib.Omega.{arith}
+use lib.ListN.{length}
+use Rattle.moving.specs.MoveLaws.{free-block, free-sum, next-block, next-sum}
+use borrow.Author.Needs.{needs}
+use Rattle.moving.proofs.record_live.Statement.{statement}
+use Rattle.moving.proofs.record_live.Tie as tie
+use Rattle.moving.proofs.record_live.Reads as reads
+use Rattle.moving.proofs.record_live.Lts as lts
+use Rattle.moving.proofs.record_value.Reads as record-value-reads
+
+-- src/lib.rt:89:9
+returns : tie.Need-returns
+returns c =
+    let o = c .before .before in
+    let a = o .args in (
+      free-block (a .a) (a .len) (a .b) (a .w) (a .top) (a .live) (a .k) (a .t9) (a .sheet .now) (o .pre .0 .2) (o .pre .0 .0) (o .pre .1 .2) (c .if1 .taken),
+      free-sum (a .a) (a .len) (a .b) (a .w) (a .top) (a .live) (a .k) (a .t9) (a .sheet .now) (o .pre .0 .2) (c .if1 .taken),
+    )
+
+-- src/lib.rt:91:44
+add-record-value : tie.Need-add-record-value
+add-record-value c = search needs
+
+-- src/lib.rt:91:54
+mul-record-value : tie.Need-mul-record-value
+mul-record-value c = search needs
+
+-- src/lib.rt:91:54
+array-read-record-value : tie.Need-array-read-record-value
+array-read-record-value c = search needs
+
+-- src/lib.rt:91:5
+record-value-requires : tie.Need-record-value-requires
+record-value-requires c κs = search needs
+
+-- src/lib.rt:82:1
+same-length : tie.Need-same-length
+same-length c = search needs
+
+-- src/lib.rt:82:1
+returns-2 : tie.Need-returns-2
+returns-2 c =
+    let o = c .before .before .before .before .before .before in
+    let a = o .args in
+    let r = c .before .before .record-value in
+    let h : a .live < a .k = omega arith in
+    let l : a .k ≤ length (a .t9) = omega arith in (
+      r .ensures .0 ∙ next-block (a .a) (a .len) (a .b) (a .w) (a .top) (a .live) (a .k) (a .t9) (a .sheet .now) (o .pre .0 .2) h l,
+      r .ensures .1 ∙ next-sum (a .a) (a .len) (a .b) (a .w) (a .top) (a .live) (a .k) (a .t9) (a .sheet .now) (o .pre .0 .2) h l,
+    )
+
+pub record-live-spec : {M : Type 1} → statement M
+record-live-spec =
+    tie.close
+    (tie.spec
+    returns
+    add-record-value
+    mul-record-value
+    array-read-record-value
+    record-value-requires
+    same-length
+    returns-2)
