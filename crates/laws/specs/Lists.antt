@@ -1,13 +1,13 @@
 -- Laws of lists of levels: sums, parts, bounds. Assumes nothing.
 use mathlib.Core.List.{List, [], _++_, _∷_}
-use mathlib.Core.Path.{_∙_, _≡_, ap, refl, sym}
+use mathlib.Core.Path.{_∙_, _≡_, ap, ap₂, refl, sym}
 use Prim.Native.Nat.{_*_, _+_, _-_, _<_, _≤_, suc, zero, zero-le, suc-le-suc, ℕ}
 use native.Mathlib.Nat.{add-sub-of-le, le-of-suc-le-suc, le-refl, not-suc-le-zero, sub-zero, suc-inj, suc-sub-suc}
 use native.Mathlib.Numerals.{add-one}
 use native.Mathlib.Omega.{arith}
 use lib.ListN.{drop, getD, length, length-drop, replicate, take}
 use lib.Seq.{getD-append-add, getD-drop, take-suc}
-use Rattle.rules.specs.Cells.{Low, Rises, sum}
+use Rattle.rules.specs.Cells.{Low, Rises, sum, tabulate}
 
 -- ---- sums
 
@@ -106,3 +106,24 @@ pub rises-sum : (xs ys : List ℕ) → length xs ≡ length ys → Rises xs ys �
 rises-sum [] ys e h = zero-le
 rises-sum (x ∷ xs) [] e h = absurd (omega arith)
 rises-sum (x ∷ xs) (y ∷ ys) e h = omega (arith, h 0, rises-sum xs ys (suc-inj e) (λ c. h (suc c)))
+
+-- ---- f 0, .., f (n - 1)
+
+pub length-tabulate : (n : ℕ) (f : ℕ → ℕ) → length (tabulate n f) ≡ n
+length-tabulate zero f = refl
+length-tabulate (suc n) f = ap suc (length-tabulate n (λ j. f (suc j)))
+
+pub getD-tabulate : (n y : ℕ) (f : ℕ → ℕ) → y < n → getD (tabulate n f) y 0 ≡ f y
+getD-tabulate zero y f h = absurd (not-suc-le-zero h)
+getD-tabulate (suc n) zero f h = refl
+getD-tabulate (suc n) (suc y) f h = getD-tabulate n y (λ j. f (suc j)) (le-of-suc-le-suc h)
+
+-- one more at the end
+pub tabulate-more : (n : ℕ) (f : ℕ → ℕ) → tabulate (suc n) f ≡ tabulate n f ++ (f n ∷ [])
+tabulate-more zero f = refl
+tabulate-more (suc n) f = ap {B = List ℕ} (λ r. f 0 ∷ r) (tabulate-more n (λ j. f (suc j)))
+
+pub tabulate-same : (n : ℕ) (f g : ℕ → ℕ) → ((j : ℕ) → j < n → f j ≡ g j) → tabulate n f ≡ tabulate n g
+tabulate-same zero f g h = refl
+tabulate-same (suc n) f g h =
+    ap₂ (λ (x : ℕ) (r : List ℕ). x ∷ r) (h 0 (suc-le-suc zero-le)) (tabulate-same n (λ j. f (suc j)) (λ j. g (suc j)) (λ j l. h (suc j) (suc-le-suc l)))

@@ -22,11 +22,11 @@ use Rattle.rules.specs.declared.Answer.{Answer}
 use Rattle.rules.specs.declared.Answer.the-variants.{Done, BadShape, BadLength, ShortOutput, BadBit, BadLevel, BadSheet, Erase}
 use Rattle.rules.specs.declared.Check.{Check}
 use Rattle.rules.specs.declared.Check.the-variants.{Pass, Refuse}
-use Rattle.laws.specs.Lists.{low-all, low-at, getD-past}
+use Rattle.laws.specs.Lists.{getD-past, getD-tabulate, length-tabulate, low-all, low-at}
 use Rattle.laws.specs.PlainSheet as P
 use Rattle.laws.specs.Calls.{Accepted, ask-fails, ask-passes, then-ends, then-goes, read-passes, erase-passes, changeRest, readRest, erase-first, change-first, read-first}
 use Rattle.lifetime.specs.Change.{erase-answered, done-answered}
-use Rattle.lifetime.specs.Staged.{getD-tabulate, length-tabulate, read-two}
+use Rattle.lifetime.specs.Staged.{read-two}
 use Rattle.rules.specs.Staged.{readCells}
 
 -- ---- which answer, exactly when

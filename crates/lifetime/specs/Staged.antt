@@ -11,7 +11,7 @@ use lib.Pow.{pow-pos}
 use Rattle.laws.specs.Block.{rises}
 use Rattle.laws.specs.Chop.{chop-join, chop-sized, join-chop, length-chop, length-join, length-record, low-join, sum-join, sums-chop}
 use Rattle.laws.specs.Halve.{plain-live}
-use Rattle.laws.specs.Lists.{sum-replicate}
+use Rattle.laws.specs.Lists.{getD-tabulate, length-tabulate, sum-replicate}
 use Rattle.laws.specs.Parity.{count-width, even-width, half-live}
 use Rattle.laws.specs.PlainMaps.{few, flips, keeps}
 use Rattle.laws.specs.Stage.{Forth, Sized, Used, full-sums, names-few, record-le, same, sums, used-append}
@@ -28,15 +28,6 @@ use Rattle.laws.specs.PlainSheet as P
 use Rattle.rules.specs.Plain as R
 
 -- ---- accepted sheets and the law of a change
-
-pub getD-tabulate : (n y : ℕ) (f : ℕ → ℕ) → y < n → getD (tabulate n f) y 0 ≡ f y
-getD-tabulate zero y f h = absurd (not-suc-le-zero h)
-getD-tabulate (suc n) zero f h = refl
-getD-tabulate (suc n) (suc y) f h = getD-tabulate n y (λ j. f (suc j)) (le-of-suc-le-suc h)
-
-pub length-tabulate : (n : ℕ) (f : ℕ → ℕ) → length (tabulate n f) ≡ n
-length-tabulate zero f = refl
-length-tabulate (suc n) f = ap suc (length-tabulate n (λ j. f (suc j)))
 
 bits-tabulate : (n : ℕ) (f : ℕ → ℕ) → ((y : ℕ) → f y < 2) → Bits (tabulate n f)
 bits-tabulate zero f h = tt

@@ -13,7 +13,7 @@ use lib.Seq.{append-snoc, drop-cons, getD-set-other, getD-set-same, getD-take, l
 use Rattle.laws.specs.Block.{Means, cycle-full, cycle-zero, length-cycle, state-means, sum-cycle}
 use Rattle.laws.specs.Cut.{length-block, store-sum}
 use Rattle.laws.specs.Distinct.{Below, Distinct, pigeon-absent}
-use Rattle.laws.specs.Lists.{low-drop, low-take, sum-append}
+use Rattle.laws.specs.Lists.{length-tabulate, low-drop, low-take, sum-append, tabulate-more, tabulate-same}
 use Rattle.laws.specs.Stage.{absent-at}
 use Rattle.rules.specs.Block.{State, active, broken, cellsOf, cycle, empty, full, grown, next, stateOf}
 use Rattle.rules.specs.Cells.{Low, block, store, sum, tabulate}
@@ -426,21 +426,6 @@ step-raises k L m i j v xs l h q b e =
     )
 
 -- ---- the values of the bits, one by one
-
--- one more value at the end
-tabulate-more : (n : ℕ) (f : ℕ → ℕ) → tabulate (suc n) f ≡ tabulate n f ++ (f n ∷ [])
-tabulate-more zero f = refl
-tabulate-more (suc n) f = ap {B = List ℕ} (λ r. f 0 ∷ r) (tabulate-more n (λ j. f (suc j)))
-
--- a list of n values has n places
-length-tabulate : (n : ℕ) (f : ℕ → ℕ) → length (tabulate n f) ≡ n
-length-tabulate zero f = refl
-length-tabulate (suc n) f = ap suc (length-tabulate n (λ j. f (suc j)))
-
--- values that agree one by one
-tabulate-same : (n : ℕ) (f g : ℕ → ℕ) → ((j : ℕ) → j < n → f j ≡ g j) → tabulate n f ≡ tabulate n g
-tabulate-same zero f g h = refl
-tabulate-same (suc n) f g h = ap₂ (λ (x : ℕ) (r : List ℕ). x ∷ r) (h 0 (omega arith)) (tabulate-same n (λ j. f (suc j)) (λ j. g (suc j)) (λ j l. h (suc j) (suc-le-suc l)))
 
 -- the values of the k bits that a scan gives are their readings
 pub scanned-bits : (k L m : ℕ) (xs : List ℕ) (s : Scan) → Scanned k L m xs s → s .sound ≡ true → parities k (s .weights) ≡ tabulate k (read k L m xs)
