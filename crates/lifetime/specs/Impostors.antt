@@ -1,4 +1,4 @@
--- The impostors of 01's last section: no program that keeps the promises is one of them, whatever its body. Assumes nothing.
+-- The impostors of 01's last section: the promises refuse each outcome of theirs, and no program that keeps the promises is one of them. Assumes nothing.
 use mathlib.Core.Path.{_≡_, refl, sym, ap, ap₂, _∙_, subst}
 use mathlib.Core.Logic.{_≢_, _⊎_, inl, inr, ⊎-elim}
 use mathlib.Core.List.{List, [], _∷_, _++_}
@@ -21,10 +21,11 @@ use Rattle.rules.specs.Batches.{decode}
 use Rattle.rules.specs.Accept.{accept, Genuine, guarantee}
 use Rattle.rules.specs.AcceptLaws.{StagedFacts, genuine-facts, genuine-plain, staged-bits, guarantee-staged, guarantee-pos, accept-genuine}
 use Rattle.rules.specs.Calls.{readBit, bitsOf, changeSheet, settingsCall, Outcome, changeCall, Reading, readCall}
-use Rattle.rules.specs.Promises.{ErasePromise, ChangePromise, ReadPromise}
+use Rattle.rules.specs.Promises.{outcome, ErasePromise, ChangePromise, ReadPromise}
 use Rattle.rules.specs.Numbers.{marked}
 use Rattle.rules.specs.declared.Settings.{Settings}
 use Rattle.rules.specs.declared.Setup.{Setup}
+use Rattle.rules.specs.declared.Answer.{Answer}
 use Rattle.rules.specs.declared.Answer.the-variants.{Done, Erase}
 use Rattle.laws.specs.Lists.{rises-sum, take-replicate}
 use Rattle.laws.specs.PlainMaps.{Reads, from, none, bit-is}
@@ -65,6 +66,10 @@ KeepsChange p = (r : Settings) (xs : List ℕ) (i : ℕ) → ChangePromise r xs 
 abbrev pub KeepsRead : ReadProgram → Type 0
 KeepsRead q = (r : Settings) (xs out : List ℕ) → ReadPromise r xs out (q r xs out .answer) (q r xs out .places)
 
+-- where such a program answers a, the promise holds of a and the sheet that it leaves
+answered : (p : ChangeProgram) → KeepsChange p → (r : Settings) (xs : List ℕ) (i : ℕ) {a : Answer} → p r xs i .answer ≡ a → ChangePromise r xs i a (p r xs i .sheet)
+answered p kp r xs i e = subst (λ (a : Answer). ChangePromise r xs i a (p r xs i .sheet)) e (kp r xs i)
+
 -- c changes were accepted by these very programs since the sheet was erased, in any run, and it is now xs
 pub data RunOf (e : EraseProgram) (p : ChangeProgram) (r : Settings) : ℕ → List ℕ → Type 0 where
   begins : (v : ℕ) (xs : List ℕ) → e r xs .answer ≡ Done v → RunOf e p r 0 (e r xs .sheet)
@@ -87,10 +92,11 @@ plain-blank k L m n i two g even room = go (bit-is (k * L) m i (states k L (repl
     go (none b) = refl
 
 module _ (r : Settings) (p : StagedFacts r) where
-  -- a staged sheet has more than one bit, and k L is even
+  -- a staged sheet has more than one bit
   two : 1 < 2 ^ r .s
   two = omega (arith, staged-bits r p .0, p .bits)
 
+  -- and kL is even
   even : 2 ^ r .s * r .top % 2 ≡ 0
   even =
       let e : suc (r .s - 1) ≡ r .s = omega (arith, p .stages-least) in
@@ -113,19 +119,23 @@ erased-reads r g i = ⊎-elim
 
 -- ---- one that answers Erase every time
 
--- no program answers Erase before as many changes were accepted as are guaranteed
+-- an outcome Erase that meets the promise comes after as many changes as are guaranteed, in any run of calls
+pub promised-late : (r : Settings) (c i : ℕ) (xs ys : List ℕ) → Run r c xs → ChangePromise r xs i Erase ys → guarantee r ≤ c
+promised-late r c i xs ys q h = erase-late r c i xs q (sym (ap (λ (o : Outcome). o .answer) h))
+
+-- so it is never met on an erased sheet
+pub promised-not-blank : (r : Settings) → Genuine r → (i : ℕ) (ys : List ℕ) → ¬ (ChangePromise r (replicate (r .n) 0) i Erase ys)
+promised-not-blank r g i ys h = let z : guarantee r ≤ 0 = promised-late r 0 i (replicate (r .n) 0) ys (blank-run r g) h in omega (arith, guarantee-pos r g)
+
+-- no program answers Erase before as many changes were accepted as are guaranteed, in any run of its own
 pub not-early-erase : (e : EraseProgram) (p : ChangeProgram) → KeepsErase e → KeepsChange p → (r : Settings) (c i : ℕ) (xs : List ℕ) → RunOf e p r c xs → c < guarantee r → p r xs i .answer ≢ Erase
 not-early-erase e p ke kp r c i xs q l a =
-    let z : guarantee r ≤ c = erase-late r c i xs (run-of e p ke kp r q) (sym (ap (λ (o : Outcome). o .answer) (kp r xs i)) ∙ a) in
+    let z : guarantee r ≤ c = promised-late r c i xs (p r xs i .sheet) (run-of e p ke kp r q) (answered p kp r xs i a) in
     omega arith
-
--- on an erased sheet Erase is never answered
-blank-not-erase : (r : Settings) → Genuine r → (i : ℕ) → changeCall r (replicate (r .n) 0) i .answer ≢ Erase
-blank-not-erase r g i a = let z : guarantee r ≤ 0 = erase-late r 0 i (replicate (r .n) 0) (blank-run r g) a in omega (arith, guarantee-pos r g)
 
 -- whatever the accepted settings, no program answers Erase on the erased sheet
 pub not-erase-at-once : (p : ChangeProgram) → KeepsChange p → (r : Settings) → Genuine r → (i : ℕ) → p r (replicate (r .n) 0) i .answer ≢ Erase
-not-erase-at-once p kp r g i a = blank-not-erase r g i (sym (ap (λ (o : Outcome). o .answer) (kp r (replicate (r .n) 0) i)) ∙ a)
+not-erase-at-once p kp r g i a = promised-not-blank r g i (p r (replicate (r .n) 0) i .sheet) (answered p kp r (replicate (r .n) 0) i a)
 
 -- so whatever the accepted settings, none answers Erase every time
 pub not-always-erase : (p : ChangeProgram) → KeepsChange p → (r : Settings) → Genuine r → ¬ ((xs : List ℕ) (i : ℕ) → p r xs i .answer ≡ Erase)
@@ -161,13 +171,18 @@ one-set r g i l = go (changeSheet r (replicate (r .n) 0) i) refl
           reads = c .flips ∙ ap (λ (x : ℕ). 1 - x) (erased-reads r g i);
           others = λ b h d. c .keeps b h d ∙ erased-reads r g b;
         }
-    go noPlace e = absurd (blank-not-erase r g i (erase-answered r (replicate (r .n) 0) i (erased-accepted r g) l e))
+    go noPlace e = absurd (promised-not-blank r g i (changeCall r (replicate (r .n) 0) i .sheet)
+        (ap (λ (a : Answer). outcome a (changeCall r (replicate (r .n) 0) i .sheet)) (sym (erase-answered r (replicate (r .n) 0) i (erased-accepted r g) l e))))
 
--- what a program that keeps the promise of read writes, on an accepted sheet: bit i at place i
-pub reads-bit : (q : ReadProgram) → KeepsRead q → (r : Settings) (xs out : List ℕ) → Accepted r xs → r .k ≤ length out → (i : ℕ) → i < r .k → getD (q r xs out .places) i 0 ≡ readBit r xs i
-reads-bit q kq r xs out a l i h =
-    let d : ReadDone r xs out (sum (bitsOf r xs)) (readCall r xs out .places) = read-done-places r xs out (sum (bitsOf r xs)) (ap (λ (o : Reading). o .answer) (read-gives r xs out a l)) in
-    ap (λ (o : Reading). getD (o .places) i 0) (kq r xs out) ∙ d .bits i h .0
+-- an output that meets the promise of read, on an accepted sheet, has bit i at place i
+pub promised-bit : (r : Settings) (xs out : List ℕ) (a : Answer) (places : List ℕ) → ReadPromise r xs out a places → Accepted r xs → r .k ≤ length out → (i : ℕ) → i < r .k → getD places i 0 ≡ readBit r xs i
+promised-bit r xs out a places h acc l i b =
+    let d : ReadDone r xs out (sum (bitsOf r xs)) (readCall r xs out .places) = read-done-places r xs out (sum (bitsOf r xs)) (ap (λ (o : Reading). o .answer) (read-gives r xs out acc l)) in
+    ap (λ (o : Reading). getD (o .places) i 0) h ∙ d .bits i b .0
+
+-- so has that of every program that keeps it
+reads-bit : (q : ReadProgram) → KeepsRead q → (r : Settings) (xs out : List ℕ) → Accepted r xs → r .k ≤ length out → (i : ℕ) → i < r .k → getD (q r xs out .places) i 0 ≡ readBit r xs i
+reads-bit q kq r xs out = promised-bit r xs out (q r xs out .answer) (q r xs out .places) (kq r xs out)
 
 -- whatever the accepted settings and the bit, one change from the erased sheet makes a sheet that every such program reads with bit i as 1
 pub not-all-zeros : (q : ReadProgram) → KeepsRead q → (r : Settings) (g : Genuine r) (i : ℕ) (l : i < r .k) (out : List ℕ) → r .k ≤ length out → getD (q r (one-set r g i l .sheet) out .places) i 0 ≡ 1
@@ -193,11 +208,11 @@ rises-still (x ∷ xs) (y ∷ ys) e h l =
     let t : sum xs ≤ sum ys = rises-sum xs ys (suc-inj e) (λ c. h (suc c)) in
     let q : y ≡ x = omega (arith, h 0) in
     let z : ys ≡ xs = rises-still xs ys (suc-inj e) (λ c. h (suc c)) (omega (arith, h 0)) in
-    ap₂ (λ (a : ℕ) (as′ : List ℕ). a ∷ as′) q z
+    ap₂ (λ (a : ℕ) (zs : List ℕ). a ∷ zs) q z
 
--- what every program that keeps the promise of change has done where it answers Done
-pub program-made : (p : ChangeProgram) → KeepsChange p → (r : Settings) (xs : List ℕ) (i v : ℕ) → p r xs i .answer ≡ Done v → Made r xs i v (p r xs i .sheet)
-program-made p kp r xs i v e = subst (λ (o : Outcome). Made r xs i v (o .sheet)) (sym (kp r xs i)) (change-made r xs i v (sym (ap (λ (o : Outcome). o .answer) (kp r xs i)) ∙ e))
+-- what an outcome Done that meets the promise of change has done
+pub promised-made : (r : Settings) (xs : List ℕ) (i v : ℕ) (ys : List ℕ) → ChangePromise r xs i (Done v) ys → Made r xs i v ys
+promised-made r xs i v ys h = subst (λ (o : Outcome). Made r xs i v (o .sheet)) (sym h) (change-made r xs i v (sym (ap (λ (o : Outcome). o .answer) h)))
 
 -- a change that is made is seen: the bit reads otherwise, the sheet differs, and levels were raised, exactly one on a plain sheet
 pub record Worked (r : Settings) (xs : List ℕ) (i v : ℕ) (ys : List ℕ) : Type 0 where
@@ -207,8 +222,10 @@ pub record Worked (r : Settings) (xs : List ℕ) (i v : ℕ) (ys : List ℕ) : T
   pub raised : 0 < v
   pub plain : r .kind ≡ 0 → v ≡ 1
 
-made-worked : (r : Settings) (xs : List ℕ) (i v : ℕ) (ys : List ℕ) → Made r xs i v ys → Worked r xs i v ys
-made-worked r xs i v ys h =
+-- an outcome Done that meets the promise raises levels and is seen
+pub promised-worked : (r : Settings) (xs : List ℕ) (i v : ℕ) (ys : List ℕ) → ChangePromise r xs i (Done v) ys → Worked r xs i v ys
+promised-worked r xs i v ys promise =
+    let h : Made r xs i v ys = promised-made r xs i v ys promise in
     let b : readBit r xs i < 2 = bit-two r xs i in
     let o : readBit r ys i ≢ readBit r xs i = λ e. omega (arith, h .changed .flips) in
     let d : ys ≢ xs = λ e. o (ap (λ (zs : List ℕ). readBit r zs i) e) in
@@ -222,45 +239,56 @@ made-worked r xs i v ys h =
           omega (arith, a .adds, h .raised);
     }
 
+-- and its value is the sum after less the sum before
+pub promised-sum : (r : Settings) (xs : List ℕ) (i v : ℕ) (ys : List ℕ) → ChangePromise r xs i (Done v) ys → v ≡ sum ys - sum xs
+promised-sum r xs i v ys h = omega (arith, promised-made r xs i v ys h .raised)
+
 -- no program answers Done and raises nothing
 pub not-idle : (p : ChangeProgram) → KeepsChange p → (r : Settings) (xs : List ℕ) (i v : ℕ) → p r xs i .answer ≡ Done v → Worked r xs i v (p r xs i .sheet)
-not-idle p kp r xs i v e = made-worked r xs i v (p r xs i .sheet) (program-made p kp r xs i v e)
+not-idle p kp r xs i v e = promised-worked r xs i v (p r xs i .sheet) (answered p kp r xs i e)
 
--- and none invents the count: the value is the sum after less the sum before
+-- and none invents the count
 pub not-invented : (p : ChangeProgram) → KeepsChange p → (r : Settings) (xs : List ℕ) (i v : ℕ) → p r xs i .answer ≡ Done v → v ≡ sum (p r xs i .sheet) - sum xs
-not-invented p kp r xs i v e = omega (arith, program-made p kp r xs i v e .raised)
+not-invented p kp r xs i v e = promised-sum r xs i v (p r xs i .sheet) (answered p kp r xs i e)
 
 -- ---- one that works at stage 0 and only pretends later
 
 -- what a change that is made does on a staged sheet with d stages left, blocks bs and index blocks es
-pub record AtStage (r : Settings) (xs : List ℕ) (i d : ℕ) (bs : List ℕ) (es : List Entry) (q : ReadProgram) (ys : List ℕ) : Type 0 where
-  -- the bit's reading is that of the stage's decoding map
+pub record AtStage (r : Settings) (xs : List ℕ) (i d : ℕ) (bs : List ℕ) (es : List Entry) (ys : List ℕ) : Type 0 where
+  -- every bit's reading is that of the stage's decoding map
   pub before : (b : ℕ) → readBit r xs b ≡ S.read (r .s) (r .m) (r .top) (staged d bs es) b
   -- the sheet after is accepted; the named bit flips and no other moves
   pub stays : Accepted r ys
   pub flips : readBit r ys i ≡ 1 - S.read (r .s) (r .m) (r .top) (staged d bs es) i
   pub keeps : (b : ℕ) → b < r .k → b ≢ i → readBit r ys b ≡ S.read (r .s) (r .m) (r .top) (staged d bs es) b
-  -- and every program that keeps the promise of read reads it so
-  pub seen : (out : List ℕ) → r .k ≤ length out → getD (q r ys out .places) i 0 ≡ 1 - getD (q r xs out .places) i 0
 
--- at every stage from 1 up: where a program answers Done, the named bit's reading flips
-pub not-pretending : (p : ChangeProgram) (q : ReadProgram) → KeepsChange p → KeepsRead q → (r : Settings) → StagedFacts r → (xs : List ℕ) (i v d : ℕ) (bs : List ℕ) (es : List Entry) →
-    decode (r .s) (r .m) (r .top) (r .w) xs ≡ staged d bs es → p r xs i .answer ≡ Done v → AtStage r xs i d bs es q (p r xs i .sheet)
+-- at every stage from 1 up: an outcome Done that meets the promise flips the named bit's reading
+pub promised-stage : (r : Settings) → StagedFacts r → (xs : List ℕ) (i v d : ℕ) (bs : List ℕ) (es : List Entry) (ys : List ℕ) →
+    decode (r .s) (r .m) (r .top) (r .w) xs ≡ staged d bs es → ChangePromise r xs i (Done v) ys → AtStage r xs i d bs es ys
 unfolding readCells
-not-pretending p q kp kq r f xs i v d bs es e a =
-    let h : Made r xs i v (p r xs i .sheet) = program-made p kp r xs i v a in
+promised-stage r f xs i v d bs es ys e promise =
+    let h : Made r xs i v ys = promised-made r xs i v ys promise in
     let w : (b : ℕ) → readBit r xs b ≡ S.read (r .s) (r .m) (r .top) (staged d bs es) b = λ b. staged-read r f xs b ∙ ap (λ (x : Sheet). S.read (r .s) (r .m) (r .top) x b) e in
     record {
       before = w;
       stays = h .changed .stays;
       flips = h .changed .flips ∙ ap (λ (x : ℕ). 1 - x) (w i);
       keeps = λ b l n. h .changed .keeps b l n ∙ w b;
-      seen = λ out l. reads-bit q kq r (p r xs i .sheet) out (h .changed .stays) l i (h .bit) ∙ h .changed .flips ∙ ap (λ (x : ℕ). 1 - x) (sym (reads-bit q kq r xs out (h .accepted) l i (h .bit)));
     }
 
--- and at every stage Erase is answered only where an existing bit has no place, in this stage or a later one
-pub erase-only : (p : ChangeProgram) → KeepsChange p → (r : Settings) (xs : List ℕ) (i : ℕ) → p r xs i .answer ≡ Erase → Accepted r xs × (i < r .k) × NoPlaceLeft r xs i
-erase-only p kp r xs i a = erase-exactly r xs i .0 (sym (ap (λ (o : Outcome). o .answer) (kp r xs i)) ∙ a)
+-- at every stage from 1 up: where a program answers Done, the named bit flips in its sheet, and as every program that keeps the promise of read reads it
+pub not-pretending : (p : ChangeProgram) (q : ReadProgram) → KeepsChange p → KeepsRead q → (r : Settings) → StagedFacts r → (xs : List ℕ) (i v d : ℕ) (bs : List ℕ) (es : List Entry) →
+    decode (r .s) (r .m) (r .top) (r .w) xs ≡ staged d bs es → p r xs i .answer ≡ Done v →
+    AtStage r xs i d bs es (p r xs i .sheet) × ((out : List ℕ) → r .k ≤ length out → getD (q r (p r xs i .sheet) out .places) i 0 ≡ 1 - getD (q r xs out .places) i 0)
+not-pretending p q kp kq r f xs i v d bs es e a =
+    let h : Made r xs i v (p r xs i .sheet) = promised-made r xs i v (p r xs i .sheet) (answered p kp r xs i a) in (
+      promised-stage r f xs i v d bs es (p r xs i .sheet) e (answered p kp r xs i a),
+      λ out l. reads-bit q kq r (p r xs i .sheet) out (h .changed .stays) l i (h .bit) ∙ h .changed .flips ∙ ap (λ (x : ℕ). 1 - x) (sym (reads-bit q kq r xs out (h .accepted) l i (h .bit))),
+    )
+
+-- and at every stage an outcome Erase meets the promise only where an existing bit has no place, in this stage or a later one
+pub promised-erase : (r : Settings) (xs : List ℕ) (i : ℕ) (ys : List ℕ) → ChangePromise r xs i Erase ys → Accepted r xs × (i < r .k) × NoPlaceLeft r xs i
+promised-erase r xs i ys h = erase-exactly r xs i .0 (sym (ap (λ (o : Outcome). o .answer) h))
 
 -- demand 3's plain count
 abbrev pub plainCount : Settings → ℕ
@@ -353,15 +381,15 @@ later-found s m L (suc d) bs vs y e = pick-elim (λ (q : Result Sheet). q ≡ do
     (λ _ q. let z : S.moveTo s m L d bs vs ≡ y = cc in subst (Later (suc d)) z (later-at d _ _ (le-refl (suc d))))
     (λ _ q. later-more (later-found s m L d bs vs y q)) e
 
--- where the plain map has no place at stage 0 and a program answers Done, the sheet after is at a later stage
-pub moves-on : (p : ChangeProgram) → KeepsChange p → (r : Settings) → StagedFacts r → (xs : List ℕ) (i v : ℕ) (bs : List ℕ) →
-    decode (r .s) (r .m) (r .top) (r .w) xs ≡ stage0 bs → R.change (2 ^ r .s) (r .top) (r .m) i bs ≡ noPlace → p r xs i .answer ≡ Done v →
-    Later (r .s - 1) (decode (r .s) (r .m) (r .top) (r .w) (p r xs i .sheet))
+-- where the plain map has no place at stage 0, an outcome Done that meets the promise is a sheet at a later stage
+pub promised-later : (r : Settings) → StagedFacts r → (xs : List ℕ) (i v : ℕ) (bs ys : List ℕ) →
+    decode (r .s) (r .m) (r .top) (r .w) xs ≡ stage0 bs → R.change (2 ^ r .s) (r .top) (r .m) i bs ≡ noPlace → ChangePromise r xs i (Done v) ys →
+    Later (r .s - 1) (decode (r .s) (r .m) (r .top) (r .w) ys)
 unfolding S.changeCells S.change
-moves-on p kp r f xs i v bs e n a = go (S.change (r .s) (r .m) (r .top) i (means r f xs)) refl (sym (staged-change r f xs i) ∙ made .maps)
+promised-later r f xs i v bs ys e n promise = go (S.change (r .s) (r .m) (r .top) i (means r f xs)) refl (sym (staged-change r f xs i) ∙ made .maps)
   where
-    made : Made r xs i v (p r xs i .sheet)
-    made = program-made p kp r xs i v a
+    made : Made r xs i v ys
+    made = promised-made r xs i v ys promise
 
     acc : T.Accepted (r .s) (r .m) (r .top) (means r f) (back r f) (r .n) (Clean r f) xs
     acc = staged-is r f xs (made .accepted)
@@ -369,13 +397,13 @@ moves-on p kp r f xs i v bs e n a = go (S.change (r .s) (r .m) (r .top) i (means
     vs : List ℕ
     vs = tabulate (2 ^ r .s) (S.after i (S.read (r .s) (r .m) (r .top) (stage0 bs)))
 
-    go : (q : Result Sheet) → S.change (r .s) (r .m) (r .top) i (means r f xs) ≡ q → S.written (back r f) xs q ≡ done (p r xs i .sheet) → Later (r .s - 1) (means r f (p r xs i .sheet))
+    go : (q : Result Sheet) → S.change (r .s) (r .m) (r .top) i (means r f xs) ≡ q → S.written (back r f) xs q ≡ done ys → Later (r .s - 1) (means r f ys)
     go noPlace q w = absurd (let z : _≡_ {A = ℕ} 0 1 = cc in omega arith)
     go (done y) q w =
         let h : F.Changed (r .s) (r .m) (r .top) i (means r f xs) y =
         subst (F.ReplyLaw (r .s) (r .m) (r .top) i (means r f xs)) q (F.reply-law (r .s) (r .m) (r .top) i (below r f (made .bit)) (f .top-least) (f .stages-least) (many r f) (means r f xs) (acc .fits)) in
-        let t : back r f xs y ≡ p r xs i .sheet = cc in
-        let m : means r f (p r xs i .sheet) ≡ y = ap (means r f) (sym t) ∙ stored r f .back xs (acc .long) (acc .clean) y (h .fits) (h .onward) in
+        let t : back r f xs y ≡ ys = cc in
+        let m : means r f ys ≡ y = ap (means r f) (sym t) ∙ stored r f .back xs (acc .long) (acc .clean) y (h .fits) (h .onward) in
         let u : S.change (r .s) (r .m) (r .top) i (stage0 bs) ≡ done y = ap (S.change (r .s) (r .m) (r .top) i) (sym e) ∙ q in
         let l : S.later (r .s) (r .m) (r .top) (r .s - 1) bs vs ≡ done y = sym (ap (S.fromStage0 (r .s) (r .m) (r .top) bs vs) n) ∙ u in
         subst (Later (r .s - 1)) (sym m) (later-found (r .s) (r .m) (r .top) (r .s - 1) bs vs y l)
@@ -401,7 +429,7 @@ goes-on p kp r f z never = go (changeSheet r (z .sheet) 0) refl
           raised = sum ys - sum (z .sheet);
           answer = a;
           not-erase = λ x. never (sym (ap (λ (o : Outcome). o .answer) (kp r (z .sheet) 0)) ∙ x);
-          later = moves-on p kp r f (z .sheet) 0 (sum ys - sum (z .sheet)) (z .blocks) (z .stage) (z .stuck) a;
+          later = promised-later r f (z .sheet) 0 (sum ys - sum (z .sheet)) (z .blocks) (p r (z .sheet) 0 .sheet) (z .stage) (z .stuck) (answered p kp r (z .sheet) 0 a);
         }
     go noPlace e = absurd (never (erase-answered r (z .sheet) 0 (run-accepted r (z .run)) bit e))
 
@@ -441,6 +469,8 @@ stage-zero-room r f z a = go (S.change (r .s) (r .m) (r .top) 0 (means r f (z .s
 pub not-stopping : (p : ChangeProgram) → KeepsChange p → (r : Settings) → StagedFacts r → (z : StageZeroEnd r) → GoesOn p r z
 not-stopping p kp r f z = goes-on p kp r f z (stage-zero-room r f z)
 
+-- ---- the plain count and the staged guarantee
+
 -- k = 4, L = 1: the two counts are equal for every m, so there demand 2 has to refuse it (not-stopping, not-pretending)
 pub counts-equal : (m : ℕ) → 4 ≤ m → (m - 4 + 1) * 4 * 1 + 4 - 1 ≡ m * 4 * 1 - 3 * (2 * 1 + 2 - 1)
 counts-equal m h = omega arith
@@ -457,22 +487,7 @@ four-counts-equal r p e f =
 abbrev Above : ℕ → ℕ → ℕ → ℕ → Type 0
 Above s k t L = (t + 1) * k * L + k - 1 < (t + k) * k * L - (k - 1) * (2 * L + s - 1)
 
-above-4 : (t L : ℕ) → 2 ≤ L → Above 2 4 t L
-above-4 t L h = omega arith
-
-above-8 : (t L : ℕ) → 1 ≤ L → Above 3 8 t L
-above-8 t L h = omega arith
-
-above-16 : (t L : ℕ) → 1 ≤ L → Above 4 16 t L
-above-16 t L h = omega arith
-
-above-32 : (t L : ℕ) → 1 ≤ L → Above 5 32 t L
-above-32 t L h = omega arith
-
-above-64 : (t L : ℕ) → 1 ≤ L → Above 6 64 t L
-above-64 t L h = omega arith
-
--- for every staged k but 4 with L = 1
+-- it is, for every staged k but 4 with L = 1
 above-all : (s t L : ℕ) → 2 ≤ s → s ≤ 6 → 1 ≤ L → ((s ≡ 2) × (L ≡ 1)) ⊎ Above s (2 ^ s) t L
 above-all zero t L h g l = absurd (omega arith)
 above-all (suc zero) t L h g l = absurd (omega arith)
@@ -480,11 +495,11 @@ above-all (suc (suc zero)) t L h g l = go (ℕ-discrete L 1)
   where
     go : Dec (L ≡ 1) → (_≡_ {A = ℕ} 2 2 × (L ≡ 1)) ⊎ Above 2 4 t L
     go (yes e) = inl (refl, e)
-    go (no n) = inr (above-4 t L (omega arith))
-above-all (suc (suc (suc zero))) t L h g l = inr (above-8 t L l)
-above-all (suc (suc (suc (suc zero)))) t L h g l = inr (above-16 t L l)
-above-all (suc (suc (suc (suc (suc zero))))) t L h g l = inr (above-32 t L l)
-above-all (suc (suc (suc (suc (suc (suc zero)))))) t L h g l = inr (above-64 t L l)
+    go (no n) = inr (omega arith)
+above-all (suc (suc (suc zero))) t L h g l = inr (omega arith)
+above-all (suc (suc (suc (suc zero)))) t L h g l = inr (omega arith)
+above-all (suc (suc (suc (suc (suc zero))))) t L h g l = inr (omega arith)
+above-all (suc (suc (suc (suc (suc (suc zero)))))) t L h g l = inr (omega arith)
 above-all (suc (suc (suc (suc (suc (suc (suc s))))))) t L h g l = absurd (omega arith)
 
 -- so for every accepted staged settings: k = 4 and L = 1, or the plain count is below the guarantee
