@@ -5,3 +5,4 @@ pub mod RecordLaws
 pub mod MoveLaws
 pub mod GoingLaws
 pub mod EndLaws
+pub mod RulesLaws

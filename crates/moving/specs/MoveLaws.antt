@@ -56,10 +56,13 @@ module _ (a len b w L u k : ℕ) (vs f : List ℕ) (n : sum (part a len f) ≢ l
       ap (λ (r : List ℕ). parityCells (len * L) L r (part a len f ∷ [])) (next-value h l)
       ∙ parity-live (len * L) L w (u + 1) (part a len f) (getD vs u 0) (drop (suc u) (take k vs)) n
 
-  pub next-block : u < k → k ≤ length vs → recordedAt a len b w L (u + 1) (getD vs u 0) f ≡ liveAt a len b w L u (take k vs) f
+  pub next-block : u < k → k ≤ length vs → (f′ : List ℕ) (number : ℕ) → f′ ≡ recordedAt a len b w L number (getD vs u 0) f → number ≡ u + 1
+      → f′ ≡ liveAt a len b w L u (take k vs) f
   unfolding liveAt recordedAt
-  next-block h l =
-      sym (
+  next-block h l f′ number e q =
+      e
+      ∙ ap (λ (x : ℕ). recordedAt a len b w L x (getD vs u 0) f) q
+      ∙ sym (
       ap₂ (λ (p q : List ℕ). spliced b q (spliced a p f)) (next-parity h l)
       (ap (λ (r : List ℕ). numberCells (len * L) L w (u + 1) r (part a len f ∷ [])) (next-value h l)
       ∙ number-live (len * L) L w (u + 1) (part a len f) (getD vs u 0) (drop (suc u) (take k vs)) n)

@@ -59,11 +59,10 @@ module _ (a len b w L : ℕ) (f : List ℕ) (g : Apart a len b w f) where
     index-asks h = subst (λ (x : ℕ). u < suc L ^ x) (sym length-index) h
 
     -- both blocks put back
-    pub record-back : (after : ℕ) (zs : List ℕ) → after ≡ sum ys
-        → zs ≡ entryCells L (length (part b w (putMid a len f ys))) (pick (ℕ-discrete after (len * L)) closed (index u))
-        → putMid b w (putMid a len f ys) zs ≡ recordedAt a len b w L u v f
+    pub record-back : (after : ℕ) (zs : List ℕ) → zs ≡ entryCells L (length (part b w (putMid a len f ys))) (pick (ℕ-discrete after (len * L)) closed (index u))
+        → after ≡ sum ys → putMid b w (putMid a len f ys) zs ≡ recordedAt a len b w L u v f
     unfolding recordedAt
-    record-back after zs e z =
+    record-back after zs z e =
         let m : zs ≡ markCells (len * L) L w u (recorded L v (part a len f)) =
         z ∙ ap₂ (λ (x s : ℕ). entryCells L x (pick (ℕ-discrete s (len * L)) closed (index u))) length-index (e ∙ ap sum y) in
         spliced-put b w zs (putMid a len f ys) (ap length m ∙ length-entry L w (pick (ℕ-discrete (sum (recorded L v (part a len f))) (len * L)) closed (index u)))

@@ -48,7 +48,7 @@ returns-2 c =
     let r = c .before .before .record-value in
     let h : a .live < a .k = omega arith in
     let l : a .k ≤ length (a .t9) = omega arith in (
-      r .ensures .0 ∙ next-block (a .a) (a .len) (a .b) (a .w) (a .top) (a .live) (a .k) (a .t9) (a .sheet .now) (o .pre .0 .2) h l,
+      next-block (a .a) (a .len) (a .b) (a .w) (a .top) (a .live) (a .k) (a .t9) (a .sheet .now) (o .pre .0 .2) h l (r .last .0) _ (r .ensures .0) (omega arith),
       r .ensures .1 ∙ next-sum (a .a) (a .len) (a .b) (a .w) (a .top) (a .live) (a .k) (a .t9) (a .sheet .now) (o .pre .0 .2) h l,
     )
 

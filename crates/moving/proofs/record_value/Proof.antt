@@ -116,9 +116,9 @@ returns c =
     let y : r .last .0 ≡ recorded (a .top) (a .value) (part (a .a) (a .len) (a .sheet .now)) = rw q at (r .ensures .0) in
     let h : r .result + sum (part (a .a) (a .len) (a .sheet .now)) ≡ sum (r .last .0) = rw q at (r .ensures .1) in
     let e : t .result ≡ sum (part (a .a) (a .len) (a .sheet .now)) = rw q at (t .ensures) in
+    let z = rw (q, p) at (c .before .before .write-index .ensures) in
     rw (q, p) (
-      record-back (a .a) (a .len) (a .b) (a .w) (a .top) (a .sheet .now) (o .pre .0) (a .number) (a .value) (r .last .0) y (t .result + r .result) (c .before .before .write-index .last .0)
-          (omega arith) (rw (q, p) at (c .before .before .write-index .ensures)),
+      record-back (a .a) (a .len) (a .b) (a .w) (a .top) (a .sheet .now) (o .pre .0) (a .number) (a .value) (r .last .0) y _ (c .before .before .write-index .last .0) z (omega arith),
       h ∙ ap sum y,
     )
 

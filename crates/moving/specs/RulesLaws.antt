@@ -1,0 +1,61 @@
+-- The move is the rules' move: the sheet after it is the one that the rules write. Assumes nothing.
+use mathlib.Core.List.{List, _∷_, _++_, map}
+use mathlib.Core.Path.{_≡_, _∙_, ap, ap₂, refl, sym}
+use Prim.Native.Nat.{ℕ, zero, suc, _+_, _-_, _*_, _^_, _≤_, _<_}
+use native.Mathlib.Nat.{pow-suc}
+use native.Mathlib.Omega.{arith}
+use lib.ListN.{length, take, drop, replicate}
+use lib.Pow.{pow-add}
+use lib.Seq.{drop-drop, take-take}
+use Rattle.laws.specs.Live.{live}
+use Rattle.laws.specs.Splice.{drop-take}
+use Rattle.rules.specs.Batches.{batchCells, entryCells, write}
+use Rattle.rules.specs.Cells.{chop, join, store}
+use Rattle.rules.specs.Stage.{closed, liveWeights, recordAll, recordedEntries}
+use Rattle.rules.specs.Staged.{liveCount, moveTo, parityCount, parityLength}
+use Rattle.moving.specs.Meaning.{batchAfter, moved}
+
+-- blocks are cut from their own cells
+chop-take : (w n c : ℕ) (xs : List ℕ) → n * w ≤ c → chop w n (take c xs) ≡ chop w n xs
+chop-take w zero c xs h = refl
+chop-take w (suc n) c xs h =
+    ap₂ (λ (b : List ℕ) (bs : List (List ℕ)). b ∷ bs) (take-take w c xs (omega arith))
+    (ap (chop w n) (drop-take w (c - w) c xs (omega arith)) ∙ chop-take w n (c - w) (drop w xs) (omega arith))
+
+-- the parity blocks of a stage are the m blocks cut smaller
+parity-all : (s m d : ℕ) → d < s - 1 → parityCount s m d * parityLength d ≡ m * 2 ^ s
+parity-all s m d h =
+    let e : suc d + (s - 1 - d) ≡ s = omega arith in
+    let q : 2 ^ d * 2 * 2 ^ (s - 1 - d) ≡ 2 ^ s = ap (λ (x : ℕ). x * 2 ^ (s - 1 - d)) (sym (pow-suc 2 d)) ∙ sym (pow-add 2 (suc d) (s - 1 - d)) ∙ ap (λ (x : ℕ). 2 ^ x) e in
+    omega (arith, ap (λ (x : ℕ). m * x) q)
+
+module _ (s m L w d : ℕ) (vs f : List ℕ) (h : d < s - 1) where
+  own-blocks : chop (parityLength d) (parityCount s m d) (take (m * 2 ^ s) f) ≡ chop (parityLength d) (parityCount s m d) f
+  own-blocks = chop-take (parityLength d) (parityCount s m d) (m * 2 ^ s) f (omega (arith, parity-all s m d h))
+
+  -- as many live blocks as the rules count
+  pub live-is : live (parityLength d * L) (chop (parityLength d) (parityCount s m d) f) ≡ liveCount s m L d (take (m * 2 ^ s) f)
+  unfolding live
+  live-is = ap (λ (bs : List (List ℕ)). length (liveWeights (parityLength d * L) bs)) (sym own-blocks)
+
+  -- with the batch of the stage that has d left
+  moved-is : moved (m * 2 ^ s + (s - 2 - d) * batchCells s w) (parityLength d) (parityCount s m d) w (2 ^ s) L vs f ≡ write s m L w f (moveTo s m L d (take (m * 2 ^ s) f) vs)
+  unfolding moved batchAfter store
+  moved-is =
+      let W : ℕ = parityLength d * L in
+      let C : ℕ = m * 2 ^ s in
+      let B : ℕ = batchCells s w in
+      let j : ℕ = s - 2 - d in
+      let between : drop (parityCount s m d * parityLength d) (take (C + j * B) f) ≡ take (j * B) (drop C f) =
+      ap (λ (x : ℕ). drop x (take (C + j * B) f)) (parity-all s m d h) ∙ drop-take C (j * B) (C + j * B) f refl in
+      let e : C + (j * B + B) ≡ C + j * B + B = omega arith in
+      let past : drop (C + j * B + B) f ≡ drop (j * B + B) (drop C f) = sym (drop-drop (j * B + B) C f ∙ ap (λ (x : ℕ). drop x f) e) in
+      let whole : List (List ℕ) → List ℕ → List ℕ → List ℕ =
+      λ bs x y. join (recordAll W L vs bs) ++ (x ++ (join (map (entryCells L w) (recordedEntries W L 1 vs bs ++ replicate (2 * (2 ^ s - 1) - length (liveWeights W bs)) closed)) ++ y)) in
+      ap₂ (λ (x y : List ℕ). whole (chop (parityLength d) (parityCount s m d) f) x y) between past
+      ∙ ap (λ (bs : List (List ℕ)). whole bs (take (j * B) (drop C f)) (drop (j * B + B) (drop C f))) (sym own-blocks)
+
+  -- and told by its numbers
+  pub move-is : (at len count k : ℕ) → at ≡ m * 2 ^ s + (s - 2 - d) * batchCells s w → len ≡ parityLength d → count ≡ parityCount s m d → k ≡ 2 ^ s
+      → moved at len count w k L vs f ≡ write s m L w f (moveTo s m L d (take (m * 2 ^ s) f) vs)
+  move-is at len count k e₁ e₂ e₃ e₄ = rw (e₁, e₂, e₃, e₄) moved-is
