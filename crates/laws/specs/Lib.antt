@@ -9,3 +9,4 @@ pub mod Chop
 pub mod Stage
 pub mod Index
 pub mod Live
+pub mod Parts
