@@ -16,3 +16,4 @@ pub mod Parity
 pub mod Calls
 pub mod Kinds
 pub mod Splice
+pub mod Parts

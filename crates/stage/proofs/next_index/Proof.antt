@@ -1,0 +1,121 @@
+-- `stage::next_index` meets its contract: the index blocks passed are all full. Assumes nothing.
+use mathlib.Core.Path.{_≡_, _∙_, ap, sym}
+use Prim.Native.Nat.{_-_, _*_, _+_, _≤_}
+use native.Mathlib.Omega.{arith}
+use lib.ListN.{length}
+use Rattle.stage.specs.Laws.{block-inside, closed-more, closed-none, index-asked, index-said}
+use Rattle.stage.specs.Meaning.{ClosedFrom, entryAt, next-at, next-nowhere}
+use Rattle.staged.specs.Meaning.{asEntry}
+use borrow.Author.Needs.{needs}
+use Rattle.stage.proofs.next_index.Statement.{statement}
+use Rattle.stage.proofs.next_index.Tie as tie
+use Rattle.stage.proofs.next_index.Reads as reads
+use Rattle.stage.proofs.next_index.Lts as lts
+use Rattle.staged.proofs.index_of.Reads as index-of-reads
+
+abbrev Inv-loop : tie.InvT-loop
+Inv-loop batch w q top from x₀ x = (from ≤ x) × ClosedFrom top w batch from x
+
+abbrev μ-loop : tie.MeasureT-loop
+μ-loop batch w q top from x₀ x = q - x
+
+-- src/lib.rt:40:5
+loop-holds : tie.Need-loop-holds Inv-loop μ-loop
+loop-holds c = (omega arith, closed-none (c .before .args .top) (c .before .args .w) (c .before .args .batch .now) (c .before .args .from))
+
+-- in a turn the index block lies within the batch
+inside : (c : tie.In-loop Inv-loop μ-loop) → c .before .loop .x * c .before .before .before .args .w + c .before .before .before .args .w ≤ length (c .before .before .before .args .batch .now)
+inside c =
+    let a = c .before .before .before .args in
+    omega (arith, block-inside (a .w) (c .before .loop .x) (a .q) (c .loop-test .taken))
+
+-- src/lib.rt:41:17
+mul-a : tie.Need-mul-a Inv-loop μ-loop
+mul-a c = omega (arith, inside c)
+
+-- src/lib.rt:42:17
+add-e : tie.Need-add-e Inv-loop μ-loop
+add-e c = omega (arith, inside c)
+
+-- src/lib.rt:43:52
+sub-index-of : tie.Need-sub-index-of Inv-loop μ-loop
+sub-index-of c = search needs
+
+-- src/lib.rt:43:52
+part-index-of-start : tie.Need-part-index-of-start Inv-loop μ-loop
+part-index-of-start c = search needs
+
+-- src/lib.rt:43:52
+part-index-of-end : tie.Need-part-index-of-end Inv-loop μ-loop
+part-index-of-end c = omega (arith, inside c)
+
+-- src/lib.rt:43:35
+index-of-requires : tie.Need-index-of-requires Inv-loop μ-loop
+index-of-requires c κs =
+    let l = c .before .before in
+    let o = l .before .before in
+    index-asked (o .args .w) (o .args .q) (o .args .top) (l .loop .x) (o .args .batch .now) (o .pre) (c .before .loop-test .taken)
+
+-- what the index block of a turn says
+said : (c : tie.After-index-of Inv-loop μ-loop) → asEntry (c .index-of .result) ≡ entryAt (c .before .before .before .before .before .args .top) (c .before .before .before .before .before .args .w) (c .before .before .before .before .before .args .batch .now) (c .before .before .before .loop .x)
+said c =
+    let l = c .before .before .before in
+    let o = l .before .before in
+    c .index-of .ensures ∙ index-said (o .args .w) (o .args .q) (o .args .top) (l .loop .x) (o .args .batch .now) (o .pre) (c .before .before .loop-test .taken)
+
+-- src/lib.rt:43:30
+enum-known-u : tie.Need-enum-known-u Inv-loop μ-loop
+enum-known-u c = search needs
+
+-- src/lib.rt:44:13
+returns : tie.Need-returns Inv-loop μ-loop
+returns c =
+    let r = c .before .before .before in
+    let l = r .before .before .before in
+    next-at (l .loop .x) (c .before .u .given .0 .0) (l .loop .inv .0) (r .before .before .loop-test .taken) (l .loop .inv .1) (sym (said r) ∙ ap asEntry (c .before .u .given .1))
+
+enum-told : tie.Need-enum-told Inv-loop μ-loop
+enum-told c = search needs
+
+-- src/lib.rt:46:9
+add-x : tie.Need-add-x Inv-loop μ-loop
+add-x c = search needs
+
+-- src/lib.rt:40:5
+loop-less : tie.Need-loop-less Inv-loop μ-loop
+loop-less c = search needs
+
+-- src/lib.rt:40:5
+loop-again : tie.Need-loop-again Inv-loop μ-loop
+loop-again c =
+    let r = c .before .before in
+    let l = r .before .before .before in
+    let a = l .before .before .args in
+    (omega arith, closed-more (a .top) (a .w) (a .batch .now) (a .from) (l .loop .x) (l .loop .inv .1) (sym (said r) ∙ ap asEntry (c .enum-told .given .1)))
+
+-- src/lib.rt:35:1
+returns-2 : tie.Need-returns-2 Inv-loop μ-loop
+returns-2 c =
+    let l = c .before in
+    next-nowhere (λ x h g. l .loop .inv .1 x h (omega arith))
+
+pub next-index-spec : {M : Type 1} → statement M
+next-index-spec =
+    tie.close
+    (tie.spec
+    Inv-loop
+    μ-loop
+    loop-holds
+    mul-a
+    add-e
+    sub-index-of
+    part-index-of-start
+    part-index-of-end
+    index-of-requires
+    enum-known-u
+    returns
+    enum-told
+    add-x
+    loop-less
+    loop-again
+    returns-2)

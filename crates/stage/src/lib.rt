@@ -1,0 +1,153 @@
+// One stage from 1 up: its check, every bit's block and the place of a change, in one pass over its parity blocks. Assumes nothing.
+use staged::Index;
+ghost use mathlib.Core.Path.{_≡_};
+ghost use Prim.Native.Nat.{suc, _+_, _-_, _*_, _^_, _≤_, _<_};
+ghost use lib.ListN.{length};
+ghost use Rattle.rules.specs.Cells.{sum, block, chop};
+ghost use Rattle.stage.specs.Meaning.{entries, BatchFits, NextIndex, StageFits, StageScanned, begun, broken, placeIn};
+
+// The next index block that isn't full, and its number.
+pub enum Live {
+    At(usize, usize),
+    Nowhere,
+}
+
+// What a scan of a stage finds: whether the stage keeps the rules, and for each bit, and for the first free block,
+// the parity block, the index block and the weight.
+pub struct StageScan {
+    pub sound: bool,
+    pub places: [usize; 64],
+    pub slots: [usize; 64],
+    pub weights: [usize; 64],
+    pub free: usize,
+    pub free_slot: usize,
+    pub free_weight: usize,
+}
+
+// The place of a change: the bit's own block, the first free one, or a later stage; a block with its index block and its weight.
+pub enum StagePlace {
+    Own(usize, usize, usize),
+    Free(usize, usize, usize),
+    Beyond,
+}
+
+// The first index block from a number on that isn't full.
+fn next_index(batch: &[u8], w: usize, q: usize, top: u8, from: usize) -> Live
+    requires { ⌜ BatchFits w q top (now batch) ⌝ }
+    ensures { λ r. ⌜ NextIndex top w (now (batch .entry)) q from r ⌝ }
+{
+    let mut x = from;
+    while x < q {
+        let a = x * w;
+        let e = a + w;
+        if let Index::Number(u) = staged::index_of(&batch[a..e], top) {
+            return Live::At(x, u);
+        }
+        x += 1;
+    }
+    Live::Nowhere
+}
+
+// The weight of parity block j.
+fn weight_of(cells: &[u8], len: usize, j: usize) -> usize
+    requires { ⌜ (j * len + len ≤ length (now cells)) × (length (now cells) ≤ 65536) ⌝ }
+    ensures { λ r. ⌜ r ≡ sum (block len (now (cells .entry)) j) ⌝ }
+{
+    let a = j * len;
+    let e = a + len;
+    block::sum_of(&cells[a..e])
+}
+
+// A scan of nothing so far.
+fn begin(none: usize) -> StageScan
+    ensures { λ r. ⌜ r ≡ begun none ⌝ }
+{
+    StageScan {
+        sound: true,
+        places: [none; 64],
+        slots: [0; 64],
+        weights: [0; 64],
+        free: none,
+        free_slot: 0,
+        free_weight: 0,
+    }
+}
+
+// The scan of a stage that breaks the rules.
+fn unsound() -> StageScan
+    ensures { λ r. ⌜ r ≡ broken ⌝ }
+{
+    StageScan {
+        sound: false,
+        places: [0; 64],
+        slots: [0; 64],
+        weights: [0; 64],
+        free: 0,
+        free_slot: 0,
+        free_weight: 0,
+    }
+}
+
+// The check of a stage and every bit's block: the j-th parity block that isn't full belongs to the j-th index block that isn't full.
+pub fn scan_stage(
+    cells: &[u8],
+    batch: &[u8],
+    len: usize,
+    count: usize,
+    w: usize,
+    k: usize,
+    top: u8,
+) -> StageScan
+    requires { ⌜ StageFits len count w k top (now cells) (now batch) ⌝ }
+    ensures { λ r. ⌜ StageScanned k (len * top) (chop len count (now (cells .entry))) (entries top w (2 * (k - 1)) (now (batch .entry))) r ⌝ }
+{
+    let mut s = begin(count);
+    let mut next: usize = 0;
+    for j in 0..count {
+        let v = weight_of(cells, len, j);
+        if v == len * top as usize {
+            continue;
+        }
+        let Live::At(slot, u) = next_index(batch, w, 2 * (k - 1), top, next) else {
+            return unsound();
+        };
+        next = slot + 1;
+        if k < u {
+            return unsound();
+        }
+        if u == 0 {
+            if s.free == count {
+                s.free = j;
+                s.free_slot = slot;
+                s.free_weight = v;
+            }
+            continue;
+        }
+        let bit = u - 1;
+        if s.places[bit] < count {
+            return unsound();
+        }
+        s.places[bit] = j;
+        s.slots[bit] = slot;
+        s.weights[bit] = v;
+    }
+    if let Live::At(_, _) = next_index(batch, w, 2 * (k - 1), top, next) {
+        return unsound();
+    }
+    s
+}
+
+// The place of a change of a bit within the stage; count stands for none.
+pub fn place_in(s: StageScan, bit: usize, count: usize) -> StagePlace
+    requires { ⌜ bit < 64 ⌝ }
+    ensures { λ r. ⌜ r ≡ placeIn s bit count ⌝ }
+{
+    let place = s.places[bit];
+    if place < count {
+        return StagePlace::Own(place, s.slots[bit], s.weights[bit]);
+    }
+    if s.free < count {
+        return StagePlace::Free(s.free, s.free_slot, s.free_weight);
+    }
+    StagePlace::Beyond
+}
