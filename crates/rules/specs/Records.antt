@@ -38,17 +38,17 @@ bitNamed rec = getD rec 6 0
 -- ---- BadRecord, before everything else
 
 -- the record is whole, its operation is known and its last byte is 0
-abbrev pub checkForm : List ℕ → Check
+unfoldable pub checkForm : List ℕ → Check
 checkForm rec =
     andThen (ask (ℕ-discrete (length rec) 8) BadRecord)
     (andThen (ask (decLe 1 (operation rec)) BadRecord) (andThen (ask (decLe (operation rec) 3) BadRecord) (ask (ℕ-discrete (getD rec 7 0) 0) BadRecord)))
 
 -- operations 1 and 3 use no bit
-abbrev pub checkUnused : List ℕ → Check
+unfoldable pub checkUnused : List ℕ → Check
 checkUnused rec = ask (ℕ-discrete (bitNamed rec) 0) BadRecord
 
 -- operations 2 and 3 have a sheet held, and its settings
-abbrev pub checkHeld : List ℕ → Settings → Check
+unfoldable pub checkHeld : List ℕ → Settings → Check
 checkHeld rec r =
     andThen (ask (decLt 0 (r .k)) BadRecord)
     (andThen (ask (ℕ-discrete (kindAsked rec) (r .kind)) BadRecord) (andThen (ask (ℕ-discrete (bitsAsked rec) (r .k)) BadRecord)

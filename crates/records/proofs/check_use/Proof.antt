@@ -1,0 +1,68 @@
+-- Each operation adds its own tests.
+use mathlib.Core.Path.{sym, _∙_}
+use Rattle.laws.specs.Calls.{then-ends, then-goes}
+use Rattle.records.specs.Laws.{use-one, use-two, use-three}
+use borrow.Author.Needs.{needs}
+use Rattle.records.proofs.check_use.Statement.{statement}
+use Rattle.records.proofs.check_use.Tie as tie
+
+byte-at-requires : tie.Need-byte-at-requires
+byte-at-requires c κs = search needs
+
+check-unused-requires : tie.Need-check-unused-requires
+check-unused-requires c κs = search needs
+
+returns : tie.Need-returns
+returns c =
+    let b = c .before .before in
+    c .check-unused .ensures ∙ sym (use-one _ _ (sym (b .byte-at .ensures .0) ∙ c .before .if1 .taken))
+
+check-held-requires : tie.Need-check-held-requires
+check-held-requires c κs = search needs
+
+returns-2 : tie.Need-returns-2
+returns-2 c =
+    let b = c .before .before .before in
+    c .check-held .ensures ∙ sym (use-two _ _ (sym (b .byte-at .ensures .0) ∙ c .before .if2 .taken))
+
+check-unused-requires-2 : tie.Need-check-unused-requires-2
+check-unused-requires-2 c κs = search needs
+
+enum-known-answer : tie.Need-enum-known-answer
+enum-known-answer c = search needs
+
+returns-3 : tie.Need-returns-3
+returns-3 c =
+    let u = c .before .before .before in
+    let b = u .before .before .before in
+    let e = b .byte-at .ensures .0 in
+    sym (use-three _ _ (b .before .before .args .held) (b .before .before .pre .1) (λ q. u .before .before .if1 .left (e ∙ q)) (λ q. u .before .if2 .left (e ∙ q)) ∙ then-ends _ (sym (u .check-unused2 .ensures) ∙ c .before .answer .given .1))
+
+enum-told : tie.Need-enum-told
+enum-told c = search needs
+
+check-held-requires-2 : tie.Need-check-held-requires-2
+check-held-requires-2 c κs = search needs
+
+returns-4 : tie.Need-returns-4
+returns-4 c =
+    let u = c .before .before .before in
+    let b = u .before .before .before in
+    let e = b .byte-at .ensures .0 in
+    c .check-held2 .ensures ∙ sym (use-three _ _ (b .before .before .args .held) (b .before .before .pre .1) (λ q. u .before .before .if1 .left (e ∙ q)) (λ q. u .before .if2 .left (e ∙ q)) ∙ then-goes _ (sym (u .check-unused2 .ensures) ∙ c .before .enum-told .given .1))
+
+pub check-use-spec : {M : Type 1} → statement M
+check-use-spec =
+    tie.close
+    (tie.spec
+    byte-at-requires
+    check-unused-requires
+    returns
+    check-held-requires
+    returns-2
+    check-unused-requires-2
+    enum-known-answer
+    returns-3
+    enum-told
+    check-held-requires-2
+    returns-4)

@@ -1,0 +1,3 @@
+-- What a record means, and the laws of it.
+pub mod Meaning
+pub mod Laws

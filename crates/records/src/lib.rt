@@ -1,0 +1,167 @@
+// One record of the drive program: what it asks for, and what the library makes of it. Assumes nothing.
+use rules::Answer;
+use rules::Check;
+use rules::Settings;
+use rules::Setup;
+ghost use mathlib.Core.Path.{_≡_};
+ghost use Prim.Native.Nat.{_+_, _*_, _≤_, _<_};
+ghost use lib.ListN.{length, getD, take};
+ghost use Rattle.rules.specs.Cells.{sum};
+ghost use Rattle.rules.specs.Records.{operation, cellsAsked, checkForm, checkUnused, checkHeld, heldAfter, eraseStep};
+ghost use Rattle.records.specs.Meaning.{stepOf, asked, checkUse, checkRecord, Front};
+
+// Byte i of a record, as a number.
+fn byte_at(bytes: &[u8], i: usize) -> usize
+    requires { ⌜ i < length (now bytes) ⌝ }
+    ensures { λ r. ⌜ (r ≡ getD (now (bytes .entry)) i 0) × (r < 256) ⌝ }
+{
+    bytes[i] as usize
+}
+
+// The cells that a record asks for: two bytes, low first.
+fn cells_asked(bytes: &[u8]) -> usize
+    requires { ⌜ length (now bytes) ≡ 8 ⌝ }
+    ensures { λ r. ⌜ r ≡ cellsAsked (now (bytes .entry)) ⌝ }
+{
+    byte_at(bytes, 4) + 256 * byte_at(bytes, 5)
+}
+
+// The settings that a record asks for, as they are accepted.
+fn asked_for(bytes: &[u8]) -> Settings
+    requires { ⌜ length (now bytes) ≡ 8 ⌝ }
+    ensures { λ r. ⌜ r ≡ asked (now (bytes .entry)) ⌝ }
+{
+    Settings::work_out(
+        byte_at(bytes, 1),
+        byte_at(bytes, 2),
+        byte_at(bytes, 3),
+        cells_asked(bytes),
+    )
+}
+
+// The record is whole, its operation is known and its last byte is 0.
+fn check_form(bytes: &[u8]) -> Check
+    ensures { λ r. ⌜ r ≡ checkForm (now (bytes .entry)) ⌝ }
+{
+    if bytes.len() != 8 {
+        return Check::Refuse(Answer::BadRecord);
+    }
+    if bytes[0] < 1 {
+        return Check::Refuse(Answer::BadRecord);
+    }
+    if 3 < bytes[0] {
+        return Check::Refuse(Answer::BadRecord);
+    }
+    if bytes[7] != 0 {
+        return Check::Refuse(Answer::BadRecord);
+    }
+    Check::Pass
+}
+
+// The bit byte is 0.
+fn check_unused(bytes: &[u8]) -> Check
+    requires { ⌜ length (now bytes) ≡ 8 ⌝ }
+    ensures { λ r. ⌜ r ≡ checkUnused (now (bytes .entry)) ⌝ }
+{
+    if bytes[6] != 0 {
+        return Check::Refuse(Answer::BadRecord);
+    }
+    Check::Pass
+}
+
+// A sheet is held, and the record has its settings.
+fn check_held(bytes: &[u8], held: Settings) -> Check
+    requires { ⌜ length (now bytes) ≡ 8 ⌝ }
+    ensures { λ r. ⌜ r ≡ checkHeld (now (bytes .entry)) held ⌝ }
+{
+    if held.k < 1 {
+        return Check::Refuse(Answer::BadRecord);
+    }
+    if byte_at(bytes, 1) != held.kind {
+        return Check::Refuse(Answer::BadRecord);
+    }
+    if byte_at(bytes, 2) != held.k {
+        return Check::Refuse(Answer::BadRecord);
+    }
+    if byte_at(bytes, 3) != held.top {
+        return Check::Refuse(Answer::BadRecord);
+    }
+    if cells_asked(bytes) != held.n {
+        return Check::Refuse(Answer::BadRecord);
+    }
+    Check::Pass
+}
+
+// The tests that the operation adds: an unused bit byte, a sheet held.
+fn check_use(bytes: &[u8], held: Settings) -> Check
+    requires { ⌜ (length (now bytes) ≡ 8) × (1 ≤ operation (now bytes)) ⌝ }
+    ensures { λ r. ⌜ r ≡ checkUse (operation (now (bytes .entry))) (now (bytes .entry)) held ⌝ }
+{
+    let op = byte_at(bytes, 0);
+    if op == 1 {
+        return check_unused(bytes);
+    }
+    if op == 2 {
+        return check_held(bytes, held);
+    }
+    if let Check::Refuse(answer) = check_unused(bytes) {
+        return Check::Refuse(answer);
+    }
+    check_held(bytes, held)
+}
+
+// Every test for BadRecord.
+fn check_record(bytes: &[u8], held: Settings) -> Check
+    ensures { λ r. ⌜ r ≡ checkRecord (now (bytes .entry)) held ⌝ }
+{
+    if let Check::Refuse(answer) = check_form(bytes) {
+        return Check::Refuse(answer);
+    }
+    check_use(bytes, held)
+}
+
+// The cells that a sheet of n cells takes of these.
+fn front(n: usize, cells: &[u8]) -> usize
+    ensures { λ r. ⌜ Front n (now (cells .entry)) r ⌝ }
+{
+    if n <= cells.len() {
+        return n;
+    }
+    cells.len()
+}
+
+// The settings held after an erase that answered so.
+fn held_after(new: Settings, held: Settings, answer: Answer) -> Settings
+    ensures { λ r. ⌜ r ≡ heldAfter new held answer ⌝ }
+{
+    match answer {
+        Answer::Done(_) => new,
+        Answer::BadShape => held,
+        Answer::BadLength => held,
+        Answer::ShortOutput => held,
+        Answer::BadBit => held,
+        Answer::BadLevel(_) => held,
+        Answer::BadSheet => held,
+        Answer::Erase => held,
+        Answer::BadRecord => held,
+    }
+}
+
+// Operation 1: the sheet of the new settings is erased, and held if that is done.
+fn obey_erase(new: Settings, held: Settings, cells: &mut [u8]) -> Setup
+    ensures { λ r. ⌜ stepOf r (now (cells .exit)) ≡ eraseStep new held (now (cells .entry)) ⌝ }
+{
+    let n = front(new.n, cells);
+    let answer = sheet::erase(new, &mut cells[..n]);
+    let settings = held_after(new, held, answer);
+    Setup { answer, settings }
+}
+
+// The sum of the levels of the sheet held.
+pub fn sum_held(held: Settings, cells: &[u8]) -> usize
+    requires { ⌜ length (now cells) ≤ 65536 ⌝ }
+    ensures { λ r. ⌜ r ≡ sum (take (held .n) (now (cells .entry))) ⌝ }
+{
+    let n = front(held.n, cells);
+    block::sum_of(&cells[..n])
+}
