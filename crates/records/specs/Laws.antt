@@ -8,15 +8,15 @@ use native.Mathlib.Omega.{arith}
 use lib.ListN.{length, getD, take, drop}
 use lib.Seq.{take-all, take-length, drop-length, length-take-le}
 use Rattle.rules.specs.SearchLaws.{pick-elim}
-use Rattle.rules.specs.Calls.{ask, andThen, Outcome, eraseCall}
-use Rattle.rules.specs.Promises.{ErasePromise}
-use Rattle.rules.specs.Records.{operation, kindAsked, bitsAsked, topAsked, cellsAsked, bitNamed, checkForm, checkUnused, checkHeld, Step, keep, passed, byOperation, recordStep, heldAfter, eraseStep}
+use Rattle.rules.specs.Calls.{ask, andThen, Outcome, eraseCall, changeCall}
+use Rattle.rules.specs.Promises.{ErasePromise, ChangePromise}
+use Rattle.rules.specs.Records.{operation, kindAsked, bitsAsked, topAsked, cellsAsked, bitNamed, checkForm, checkUnused, checkHeld, Step, keep, passed, byOperation, recordStep, heldAfter, eraseStep, changeStep, readStep}
 use Rattle.rules.specs.declared.Settings.{Settings}
 use Rattle.rules.specs.declared.Answer.{Answer}
 use Rattle.rules.specs.declared.Answer.the-variants.{BadRecord}
 use Rattle.rules.specs.declared.Check.{Check}
 use Rattle.rules.specs.declared.Check.the-variants.{Pass, Refuse}
-use Rattle.records.specs.Meaning.{stepOf, Form, HeldFacts, checkUse, checkRecord, work, Front}
+use Rattle.records.specs.Meaning.{stepOf, Form, HeldFacts, checkUse, checkRecord, asked, work, Front}
 
 -- ---- tests that answer BadRecord
 
@@ -108,6 +108,27 @@ record-first rec r xs e =
     ap (passed (checkForm rec) r xs) (use-first (operation rec) rec r xs) ∙ twice (checkForm rec) (checkUse (operation rec) rec r) r xs _
     ∙ ap (λ (c : Check). passed c r xs (work (operation rec) rec r xs)) e
 
+-- the work of each operation
+pub work-one : {op : ℕ} (rec : List ℕ) (r : Settings) (xs : List ℕ) → op ≡ 1 → work op rec r xs ≡ eraseStep (asked rec) r xs
+work-one rec r xs e = ap (λ (op : ℕ). work op rec r xs) e
+
+pub work-two : {op : ℕ} (rec : List ℕ) (r : Settings) (xs : List ℕ) → op ≡ 2 → work op rec r xs ≡ changeStep r xs (bitNamed rec)
+work-two rec r xs e = ap (λ (op : ℕ). work op rec r xs) e
+
+pub work-three : (op : ℕ) (rec : List ℕ) (r : Settings) (xs : List ℕ) → 1 ≤ op → ¬ (op ≡ 1) → ¬ (op ≡ 2) → work op rec r xs ≡ readStep r xs
+work-three zero rec r xs l h g = absurd (not-suc-le-zero l)
+work-three (suc zero) rec r xs l h g = absurd (h refl)
+work-three (suc (suc zero)) rec r xs l h g = absurd (g refl)
+work-three (suc (suc (suc op))) rec r xs l h g = refl
+
+-- a record that passes every test has its form
+then-first : (c d : Check) → andThen c d ≡ Pass → c ≡ Pass
+then-first Pass d e = refl
+then-first (Refuse a) d e = e
+
+pub record-form : (rec : List ℕ) (r : Settings) → checkRecord rec r ≡ Pass → Form rec
+record-form rec r e = tested-passed (form-tested rec) (then-first (checkForm rec) (checkUse (operation rec) rec r) e)
+
 -- ---- the cells of a sheet
 
 -- nothing stands after the end
@@ -139,3 +160,10 @@ erase-step new r xs n a ys f e h =
     ap (λ (s : Settings). stepOf (record { answer = a; settings = s }) (ys ++ drop n xs)) h
     ∙ ap (λ (zs : List ℕ). stepOf (record { answer = a; settings = heldAfter new r a }) (ys ++ zs)) (f .rest)
     ∙ ap (λ (o : Outcome). stepOf (record { answer = o .answer; settings = heldAfter new r (o .answer) }) (o .sheet ++ drop (new .n) xs)) (e ∙ ap (eraseCall new) (f .part))
+
+-- a change of the front is the work of operation 2
+pub change-step : (r : Settings) (xs : List ℕ) (i n : ℕ) (a : Answer) (ys : List ℕ) → Front (r .n) xs n → ChangePromise r (take n xs) i a ys →
+    stepOf (record { answer = a; settings = r }) (ys ++ drop n xs) ≡ changeStep r xs i
+change-step r xs i n a ys f e =
+    ap (λ (zs : List ℕ). stepOf (record { answer = a; settings = r }) (ys ++ zs)) (f .rest)
+    ∙ ap (λ (o : Outcome). stepOf (record { answer = o .answer; settings = r }) (o .sheet ++ drop (r .n) xs)) (e ∙ ap (λ (zs : List ℕ). changeCall r zs i) (f .part))

@@ -1,3 +1,4 @@
 -- What a record means, and the laws of it.
 pub mod Meaning
 pub mod Laws
+pub mod ReadLaws

@@ -1,10 +1,10 @@
 -- What the parts of a record's meaning ask for and hand back. Assumes nothing.
 use mathlib.Core.Path.{_≡_}
-use mathlib.Core.List.{List}
+use mathlib.Core.List.{List, []}
 use Prim.Native.Nat.{ℕ, zero, suc, _≤_, _<_}
-use lib.ListN.{length, getD, take, drop}
+use lib.ListN.{length, getD, take, drop, replicate}
 use Rattle.rules.specs.Accept.{accept}
-use Rattle.rules.specs.Calls.{andThen}
+use Rattle.rules.specs.Calls.{bitsOf, andThen, readChecks}
 use Rattle.rules.specs.Records.{operation, kindAsked, bitsAsked, topAsked, cellsAsked, bitNamed, checkForm, checkUnused, checkHeld, Step, keep, eraseStep, changeStep, readStep}
 use Rattle.rules.specs.declared.Settings.{Settings}
 use Rattle.rules.specs.declared.Setup.{Setup}
@@ -65,3 +65,20 @@ pub record Front (n : ℕ) (xs : List ℕ) (a : ℕ) : Type 0 where
   pub counted : a ≡ length (take a xs)
   pub part : take a xs ≡ take n xs
   pub rest : drop a xs ≡ drop n xs
+
+-- ---- the bits of the sheet held
+
+-- bits are shown where a reading passes its checks
+abbrev pub shown : Check → List ℕ → List ℕ
+shown Pass bits = bits
+shown (Refuse a) bits = []
+
+-- the bits of the sheet held, bit 0 first; none while there is no sheet
+abbrev pub bitsHeld : Settings → List ℕ → List ℕ
+bitsHeld r xs = shown (readChecks r (take (r .n) xs) (replicate (r .k) 0)) (bitsOf r (take (r .n) xs))
+
+-- the first a places of ys are those bits
+pub record BitsShown (r : Settings) (xs ys : List ℕ) (a : ℕ) : Type 0 where
+  pub inside : a ≤ length ys
+  pub counted : a ≡ length (take a ys)
+  pub bits : take a ys ≡ bitsHeld r xs
