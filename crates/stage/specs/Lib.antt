@@ -2,3 +2,4 @@
 pub mod Meaning
 pub mod LiveLaws
 pub mod Laws
+pub mod PlaceLaws

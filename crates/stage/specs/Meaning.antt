@@ -122,3 +122,32 @@ unfoldable pub placeIn : StageScan → ℕ → ℕ → StagePlace
 placeIn s bit count =
     pick (decLt (getD (s .places) bit 0) count) (Own (getD (s .places) bit 0) (getD (s .slots) bit 0) (getD (s .weights) bit 0))
     (pick (decLt (s .free) count) (Free (s .free) (s .«free_slot») (s .«free_weight»)) Beyond)
+
+-- a change of bit i that stays in the stage, at parity block j of weight v with index block x: the blocks and entries after it, and the cells of both
+pub record Stays (len count w q L i : ℕ) (cells batch : List ℕ) (j x v : ℕ) (bs : List (List ℕ)) (es : List Entry) (after indexed : List ℕ) : Type 0 where
+  pub in-cells : j < count
+  pub in-batch : x < q
+  pub weight : v ≡ sum (block len cells j)
+  pub live : v ≢ len * L
+  pub stays : changeWithin (len * L) L i (chop len count cells) (entries L w q batch) ≡ stay bs es
+  pub cells-after : join bs ≡ after
+  pub batch-after : join (map (entryCells L w) es) ≡ indexed
+
+-- what a place means for the change of bit i: its own block is raised, and its index block to full if that fills it;
+-- the first free block takes the bit, raised only if its weight is even; or the change goes on to a later stage, and fewer than k blocks aren't full
+pub data PlaceWithin (len count w k L i : ℕ) (cells batch : List ℕ) : StagePlace → Type 0 where
+  at-own : (j x v : ℕ) → Stays len count w (2 * (k - 1)) L i cells batch j x v
+      (set (chop len count cells) j (raise L (block len cells j)))
+      (pick (ℕ-discrete (suc v) (len * L)) (set (entries L w (2 * (k - 1)) batch) x closed) (entries L w (2 * (k - 1)) batch))
+      (store len (take (count * len) cells) j (raise L (block len cells j)))
+      (pick (ℕ-discrete (suc v) (len * L)) (store w (take (2 * (k - 1) * w) batch) x (replicate w L)) (take (2 * (k - 1) * w) batch))
+      → PlaceWithin len count w k L i cells batch (Own j x v)
+  at-free : (j x v : ℕ) → Stays len count w (2 * (k - 1)) L i cells batch j x v
+      (pick (ℕ-discrete (v % 2) 0) (set (chop len count cells) j (raise L (block len cells j))) (chop len count cells))
+      (set (entries L w (2 * (k - 1)) batch) x (index (suc i)))
+      (pick (ℕ-discrete (v % 2) 0) (store len (take (count * len) cells) j (raise L (block len cells j))) (take (count * len) cells))
+      (store w (take (2 * (k - 1) * w) batch) x (digits (suc L) w (suc i)))
+      → PlaceWithin len count w k L i cells batch (Free j x v)
+  at-none : changeWithin (len * L) L i (chop len count cells) (entries L w (2 * (k - 1)) batch) ≡ beyond
+      → length (liveWeights (len * L) (chop len count cells)) < k
+      → PlaceWithin len count w k L i cells batch Beyond
