@@ -89,14 +89,20 @@ begun none = record { sound = true; places = replicate 64 none; slots = replicat
 abbrev pub broken : StageScan
 broken = record { sound = false; places = replicate 64 0; slots = replicate 64 0; weights = replicate 64 0; free = 0; «free_slot» = 0; «free_weight» = 0 }
 
--- a turn that meets a parity block and an index block that aren't full: j are passed before it, and x
-pub record Turn (k W none len : ℕ) (cells : List ℕ) (L w : ℕ) (batch : List ℕ) (q j x u v : ℕ) (s : StageScan) : Type 0 where
+-- where a scan stands that has found nothing wrong: the first j of none parity blocks and the first x of q index blocks are passed
+pub record ScanAt (k W none len : ℕ) (cells : List ℕ) (L w : ℕ) (batch : List ℕ) (q j x : ℕ) (s : StageScan) : Type 0 where
   pub few : k ≤ 64
+  pub in-cells : j ≤ none
+  pub in-batch : x ≤ q
   pub passed : Passed k W none (chop len j cells) (entries L w x batch) s
-  pub before : j < none
+
+-- a turn of the scan that has met parity block j, of weight v and not full, and index block x, of number u
+pub record Turn (k W none len : ℕ) (cells : List ℕ) (L w : ℕ) (batch : List ℕ) (q j x u v : ℕ) (s : StageScan) : Type 0 where
+  pub here : ScanAt k W none len cells L w batch q j x s
+  pub a-block : j < none
+  pub an-index : x < q
   pub weight : v ≡ sum (block len cells j)
   pub live : v ≢ W
-  pub inside : x < q
   pub entry : entryAt L w batch x ≡ index u
 
 -- what the scan of a stage asks: count parity blocks of len cells, and 2(k - 1) index blocks of w cells

@@ -1,28 +1,26 @@
 -- What follows from the scan of a stage: its check, the reading of each bit, the place of a change, and that no second scan fits. Assumes nothing.
 use mathlib.Core.Bool.{Bool, true, false}
 use mathlib.Core.List.{List, [], _∷_, map}
-use mathlib.Core.Logic.{_≢_}
 use mathlib.Core.Path.{_≡_, _∙_, ap, ap₂, refl, subst, sym}
-use Prim.Native.Nat.{ℕ, zero, suc, _+_, _-_, _*_, _%_, _≤_, _<_}
+use Prim.Native.Nat.{ℕ, zero, suc, _-_, _*_, _%_, _≤_, _<_}
 use native.Mathlib.Decide.{ℕ-discrete, decLt}
 use native.Mathlib.Omega.{arith}
-use lib.ListN.{drop, getD, length, length-drop, length-map, replicate, set, take}
+use lib.ListN.{drop, getD, length, length-drop, length-map, set, take}
 use lib.Seq.{ext-getD, length-take-le}
 use Rattle.laws.specs.Chop.{join-chop, length-chop}
 use Rattle.laws.specs.Index.{stored-entry}
 use Rattle.laws.specs.Lists.{low-drop, low-take}
 use Rattle.laws.specs.Parts.{chop-take, getD-chop, join-set, map-set}
-use Rattle.laws.specs.Stage.{absent-at, at-absent, names-few, weight-at, weight-none}
-use Rattle.rules.specs.Batches.{digits, entryCells, entryOf}
+use Rattle.laws.specs.Stage.{absent-at, names-few, weight-at, weight-none}
+use Rattle.rules.specs.Batches.{entryCells, entryOf}
 use Rattle.rules.specs.Cells.{Low, block, chop, join, store, sum}
 use Rattle.rules.specs.Search.{Found, at, first, nowhere, pick}
-use Rattle.rules.specs.SearchLaws.{First, first-eq, hit, miss, pick-elim}
-use Rattle.rules.specs.Stage.{Absent, Entry, StageOk, Within, beyond, changeWithin, chosen, closed, index, indexes, liveWeights, raise, raiseLive, setLive, stay, valueOf}
+use Rattle.rules.specs.SearchLaws.{first-eq, hit, miss, pick-elim}
+use Rattle.rules.specs.Stage.{Absent, Entry, StageOk, beyond, changeWithin, chosen, closed, index, indexes, liveWeights, raise, stay, valueOf}
 use Rattle.stage.specs.Laws.{home-nowhere}
 use Rattle.stage.specs.LiveLaws.{live-block-in, live-block-open, live-block-sum, open-entry-in, raise-live-set, set-live-set}
-use Rattle.stage.specs.Meaning.{FirstAt, Home, Passed, PlaceWithin, StageFits, StageScanned, Stays, at-free, at-none, at-own, entries, has, hasNot, liveBlock, openEntry, placeIn}
-use Rattle.stage.specs.declared.StagePlace.{StagePlace}
-use Rattle.stage.specs.declared.StagePlace.the-variants.{Own, Free, Beyond}
+use Rattle.stage.specs.Meaning.{FirstAt, Home, Passed, PlaceWithin, StageFits, StageScanned, at-free, at-none, at-own, entries, has, hasNot, liveBlock, openEntry, placeIn}
+use Rattle.stage.specs.declared.StagePlace.the-variants.{Own, Free}
 use Rattle.stage.specs.declared.StageScan.{StageScan}
 
 -- ---- the check and the reading
