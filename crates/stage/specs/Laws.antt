@@ -34,6 +34,7 @@ block-inside w x n h = omega (arith, mul-le-mul-right {m = suc x} {n = n} w h)
 -- ---- the look for the next index block
 
 module _ (w q L x : ℕ) (batch : List ℕ) (fits : BatchFits w q L batch) (h : x < q) where
+  -- an index block has w cells
   index-length : length (block w batch x) ≡ w
   index-length = length-block w batch x (omega (arith, block-inside w x q h, fits .holds))
 
@@ -54,12 +55,14 @@ module _ (L w : ℕ) (batch : List ℕ) (from : ℕ) where
   pub closed-none : ClosedFrom L w batch from from
   closed-none x h l = absurd (omega arith)
 
+  -- one more of them
   pub closed-more : (x : ℕ) → ClosedFrom L w batch from x → entryAt L w batch x ≡ closed → ClosedFrom L w batch from (x + 1)
   closed-more x h e y a b =
       ⊎-elim (λ q. subst (λ (z : ℕ). entryAt L w batch z ≡ closed) (sym q) e) (λ l. h y a l) (eq-or-lt-of-le (le-of-suc-le-suc (subst (λ (m : ℕ). y < m) (add-one x) b)))
 
 -- ---- the first rank of a number
 
+-- more numbers at the end do not move it
 first-append : (u t : ℕ) (ts rs : List ℕ) → FirstAt u ts t → FirstAt u (ts ++ rs) t
 first-append u t ts rs f = record {
   inside = omega (arith, length-append ts rs, f .inside);
@@ -67,6 +70,7 @@ first-append u t ts rs f = record {
   earlier = λ x l e. f .earlier x l (sym (List·getD-append ts rs 0 x (omega (arith, f .inside))) ∙ e);
 }
 
+-- a number that was not there is first where it is put
 first-last : (u : ℕ) (ts : List ℕ) → Absent u ts → FirstAt u (ts ++ (u ∷ [])) (length ts)
 first-last u ts o = record {
   inside = omega (arith, length-append ts (u ∷ []));
@@ -76,6 +80,7 @@ first-last u ts o = record {
 
 -- ---- a number's block, with more blocks at the end
 
+-- equal numbers for the block
 home-same : {W none u : ℕ} {bs : List (List ℕ)} {es : List Entry} {p p′ o o′ v v′ : ℕ} → Home W none u bs es p o v → p′ ≡ p → o′ ≡ o → v′ ≡ v → Home W none u bs es p′ o′ v′
 home-same (has t f a b c) x y z = has t f (x ∙ a) (y ∙ b) (z ∙ c)
 home-same (hasNot n a b c) x y z = hasNot n (x ∙ a) (y ∙ b) (z ∙ c)
@@ -107,6 +112,7 @@ module _ (W none u : ℕ) (bs : List (List ℕ)) (es : List Entry) (as-many : le
     home-there (has t f p o v) h a = absent-at u t (indexes es) a (f .inside) (sym (f .there))
     home-there (hasNot n p o v) h a = h p
 
+    -- and any other does not
     pub home-nowhere : Home W none u bs es place slot weight → ¬ (place < none) → Absent u (indexes es)
     home-nowhere (has t f p o v) h = absurd (h (omega (arith, live-block-in W t bs (omega (arith, f .inside)))))
     home-nowhere (hasNot n p o v) h = n
@@ -141,6 +147,7 @@ module _ (k W none : ℕ) (bs : List (List ℕ)) (es : List Entry) (s : StageSca
 
   -- a parity block and an index block that aren't full
   module _ (b : List ℕ) (n : sum b ≢ W) where
+    -- there is one more of each
     one-more : (u : ℕ) → length (indexes (es ++ (index u ∷ []))) ≡ length (liveWeights W (bs ++ (b ∷ [])))
     one-more u =
         let e : length (liveWeights W (b ∷ [])) ≡ 1 = ap length (pick-no (ℕ-discrete (sum b) W) _ _ n) in
@@ -148,6 +155,7 @@ module _ (k W none : ℕ) (bs : List (List ℕ)) (es : List Entry) (s : StageSca
         let ws : length (liveWeights W (bs ++ (b ∷ []))) ≡ length (liveWeights W bs ++ liveWeights W (b ∷ [])) = ap length (weights-append W bs (b ∷ [])) in
         omega (arith, length-append (indexes es) (u ∷ []), length-append (liveWeights W bs) (liveWeights W (b ∷ [])), g .as-many)
 
+    -- a free index keeps the names
     free-names : Names k (indexes (es ++ (index 0 ∷ [])))
     free-names = subst (Names k) (sym (indexes-append es (index 0 ∷ []))) (names-free k (indexes es) (g .names))
 
@@ -175,6 +183,7 @@ module _ (k W none : ℕ) (bs : List (List ℕ)) (es : List Entry) (s : StageSca
         free = home-same (home-new W none 0 bs es (g .as-many) b n a) p o v;
       }
 
+      -- a bit's number, and each other bit's
       own-at : (i : ℕ) → i < 64 → Absent (suc i) (indexes es) → (x : ℕ) → x < 64 → Dec (x ≡ i)
           → Home W none (suc x) (bs ++ (b ∷ [])) (es ++ (index (suc i) ∷ [])) (getD (set (s .places) i place) x 0) (getD (set (s .slots) i slot) x 0) (getD (set (s .weights) i weight) x 0)
       own-at i h a x l (yes e) =

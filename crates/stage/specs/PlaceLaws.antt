@@ -29,20 +29,22 @@ use Rattle.stage.specs.declared.StageScan.{StageScan}
 pub stage-ok : {k W : ℕ} {bs : List (List ℕ)} {es : List Entry} {s : StageScan} → StageScanned k W bs es s → s .sound ≡ true → StageOk k W bs es
 stage-ok g t = (g .right t .as-many, g .right t .names)
 
--- bit i has the parity of its weight
+-- the block that the scan holds for a bit gives its value
 home-read : (W none i : ℕ) (bs : List (List ℕ)) (es : List Entry) (p o v : ℕ) → length (indexes es) ≡ length (liveWeights W bs) → Home W none (suc i) bs es p o v → valueOf W bs es i ≡ v % 2
 home-read W none i bs es p o v m (has t f a b c) = ap (λ (x : ℕ). x % 2) (weight-at (suc i) t (indexes es) (liveWeights W bs) m (f .inside) (f .there) (f .earlier) ∙ sym c)
 home-read W none i bs es p o v m (hasNot n a b c) = ap (λ (x : ℕ). x % 2) (weight-none (suc i) (indexes es) (liveWeights W bs) n ∙ sym c)
 
+-- each bit reads as the rules say
 pub stage-read : {k W : ℕ} {bs : List (List ℕ)} {es : List Entry} {s : StageScan} → StageScanned k W bs es s → s .sound ≡ true → (i : ℕ) → i < 64 → valueOf W bs es i ≡ getD (s .weights) i 0 % 2
 stage-read {W = W} {bs} {es} g t i l = home-read W (length bs) i bs es _ _ _ (g .right t .as-many) (g .right t .homes i l)
 
 -- ---- the change, by ranks
 
--- the search for a number among the indexes
+-- the search for a number finds its first rank
 search-at : (u t : ℕ) (ts : List ℕ) → FirstAt u ts t → first (λ x. ℕ-discrete (getD ts x 0) u) (length ts) ≡ at t
 search-at u t ts f = first-eq (λ x. ℕ-discrete (getD ts x 0) u) (length ts) (hit t (f .inside) (f .there) (f .earlier))
 
+-- or nothing where it is absent
 search-none : (u : ℕ) (ts : List ℕ) → Absent u ts → first (λ x. ℕ-discrete (getD ts x 0) u) (length ts) ≡ nowhere
 search-none u ts o = first-eq (λ x. ℕ-discrete (getD ts x 0) u) (length ts) (miss (λ x l e. absent-at u x ts o l (sym e)))
 
@@ -73,10 +75,11 @@ module _ (W L i : ℕ) (bs : List (List ℕ)) (es : List Entry) (as-many : lengt
 -- ---- the change, on cells
 
 module _ (w n : ℕ) (xs : List ℕ) (inside : n * w ≤ length xs) where
-  -- the blocks put together, as they are and with one set
+  -- the blocks put together are the cells that they take up
   blocks-kept : join (chop w n xs) ≡ take (n * w) xs
   blocks-kept = ap join (sym (chop-take w n xs)) ∙ join-chop w n (take (n * w) xs) (length-take-le (n * w) xs inside)
 
+  -- with one block set, they are the cells with that block stored
   blocks-set : (j : ℕ) (b : List ℕ) → j < n → join (set (chop w n xs) j b) ≡ store w (take (n * w) xs) j b
   blocks-set j b h = ap (λ (bs : List (List ℕ)). join (set bs j b)) (sym (chop-take w n xs)) ∙ join-set w n (take (n * w) xs) j b (length-take-le (n * w) xs inside) h
 
@@ -88,9 +91,11 @@ entries-stored L w (suc q) batch h l =
     (entries-stored L w q (drop w batch) (omega (arith, length-drop w batch)) (low-drop L w batch l))
 
 module _ (L w q : ℕ) (batch : List ℕ) (inside : q * w ≤ length batch) (low : Low L batch) where
+  -- the entries put together as cells
   entries-kept : join (map (entryCells L w) (entries L w q batch)) ≡ take (q * w) batch
   entries-kept = ap join (entries-stored L w q batch inside low) ∙ blocks-kept w q batch inside
 
+  -- and with one entry set
   entries-set : (x : ℕ) (y : Entry) → x < q → join (map (entryCells L w) (set (entries L w q batch) x y)) ≡ store w (take (q * w) batch) x (entryCells L w y)
   entries-set x y h =
       ap join (map-set (entryCells L w) (entries L w q batch) x y ∙ ap (λ (r : List (List ℕ)). set r x (entryCells L w y)) (entries-stored L w q batch inside low))
@@ -105,13 +110,15 @@ pick-through (no a) h p q = q
 
 module _ (len count w k L : ℕ) (cells batch : List ℕ) (f : StageFits len count w k L cells batch)
     (as-many : length (indexes (entries L w (2 * (k - 1)) batch)) ≡ length (liveWeights (len * L) (chop len count cells))) where
-  -- the block of rank t lies in the cells, and its index block in the batch
+  -- the block of rank t lies in the cells
   block-in : (t : ℕ) → t < length (indexes (entries L w (2 * (k - 1)) batch)) → liveBlock (len * L) t (chop len count cells) < count
   block-in t h = omega (arith, live-block-in (len * L) t (chop len count cells) (omega arith), length-chop len count cells)
 
+  -- and its index block in the batch
   entry-in : (t : ℕ) → t < length (indexes (entries L w (2 * (k - 1)) batch)) → openEntry t (entries L w (2 * (k - 1)) batch) < 2 * (k - 1)
   entry-in t h = omega (arith, open-entry-in t (entries L w (2 * (k - 1)) batch) h, length-map (chop w (2 * (k - 1)) batch) (entryOf L w), length-chop w (2 * (k - 1)) batch)
 
+  -- a change at the bit's own block, of rank t
   own-place : (i t : ℕ) → FirstAt (suc i) (indexes (entries L w (2 * (k - 1)) batch)) t
       → PlaceWithin len count w k L i cells batch (Own (liveBlock (len * L) t (chop len count cells)) (openEntry t (entries L w (2 * (k - 1)) batch)) (getD (liveWeights (len * L) (chop len count cells)) t 0))
   own-place i t r =
@@ -132,6 +139,7 @@ module _ (len count w k L : ℕ) (cells batch : List ℕ) (f : StageFits len cou
             (entries-set L w (2 * (k - 1)) batch (f .indexed .holds) (f .indexed .low) (openEntry t es) closed (entry-in t (r .inside))) (entries-kept L w (2 * (k - 1)) batch (f .indexed .holds) (f .indexed .low));
       })
 
+  -- a change at the first free block, of rank t
   free-place : (i t : ℕ) → Absent (suc i) (indexes (entries L w (2 * (k - 1)) batch)) → FirstAt 0 (indexes (entries L w (2 * (k - 1)) batch)) t
       → PlaceWithin len count w k L i cells batch (Free (liveBlock (len * L) t (chop len count cells)) (openEntry t (entries L w (2 * (k - 1)) batch)) (getD (liveWeights (len * L) (chop len count cells)) t 0))
   free-place i t o r =
@@ -151,12 +159,13 @@ module _ (len count w k L : ℕ) (cells batch : List ℕ) (f : StageFits len cou
         batch-after = entries-set L w (2 * (k - 1)) batch (f .indexed .holds) (f .indexed .low) (openEntry t es) (index (suc i)) (entry-in t (r .inside));
       })
 
-  -- the block that the scan holds for the bit, and the one that it holds for 0
+  -- the block that the scan holds for the bit is its own
   own-home : (i place slot weight : ℕ) → Home (len * L) (length (chop len count cells)) (suc i) (chop len count cells) (entries L w (2 * (k - 1)) batch) place slot weight
       → place < count → PlaceWithin len count w k L i cells batch (Own place slot weight)
   own-home i place slot weight (has t r p o v) h = subst (PlaceWithin len count w k L i cells batch) (cc) (own-place i t r)
   own-home i place slot weight (hasNot n p o v) h = absurd (omega (arith, length-chop len count cells))
 
+  -- the block that it holds for 0 is the first free one
   free-home : (i place slot weight : ℕ) → Absent (suc i) (indexes (entries L w (2 * (k - 1)) batch))
       → Home (len * L) (length (chop len count cells)) 0 (chop len count cells) (entries L w (2 * (k - 1)) batch) place slot weight
       → place < count → PlaceWithin len count w k L i cells batch (Free place slot weight)
@@ -184,6 +193,7 @@ stage-place {len} {count} {w} {k} {L} {cells} {batch} {s} f g t i h =
 
 -- ---- no second scan
 
+-- a number has one first rank
 first-one : {u : ℕ} {ts : List ℕ} {t x : ℕ} → FirstAt u ts t → FirstAt u ts x → t ≡ x
 first-one {t = t} {x} f g =
     let a : ¬ (t < x) = λ l. g .earlier t l (f .there) in
@@ -204,6 +214,7 @@ parts-same : (mk : Bool → List ℕ → List ℕ → List ℕ → ℕ → ℕ �
     → a ≡ a′ → b ≡ b′ → c ≡ c′ → d ≡ d′ → e ≡ e′ → f ≡ f′ → g ≡ g′ → mk a b c d e f g ≡ mk a′ b′ c′ d′ e′ f′ g′
 parts-same mk p q r s t u v = cc
 
+-- one scan passes given blocks
 passed-one : {k W none : ℕ} {bs : List (List ℕ)} {es : List Entry} {s s′ : StageScan} → Passed k W none bs es s → Passed k W none bs es s′ → s ≡ s′
 passed-one {s = s} {s′} g h =
     let a : s .sound ≡ s′ .sound = g .sound ∙ sym (h .sound) in

@@ -95,9 +95,11 @@ module _ (k W none : ℕ) where
 -- ---- the index block found
 
 module _ {L w : ℕ} {batch : List ℕ} {q from : ℕ} where
+  -- what an index block found says
   at-said : {x u : ℕ} → NextIndex L w batch q from (At x u) → (from ≤ x) × (x < q) × ClosedFrom L w batch from x × (entryAt L w batch x ≡ index u)
   at-said (next-at x u a b c e) = (a, b, c, e)
 
+  -- what none found says
   nowhere-said : NextIndex L w batch q from Nowhere → ClosedFrom L w batch from q
   nowhere-said (next-nowhere c) = c
 
@@ -155,6 +157,7 @@ module _ {k W none len : ℕ} {cells : List ℕ} {L w : ℕ} {batch : List ℕ} 
           omega (arith, ok .0, more-weights W len j none cells l (λ z. n (m ∙ z))))
 
   module _ {r : Live} (l : none ≤ j) (f : NextIndex L w batch q x r) where
+    -- all parity blocks are passed
     all : j ≡ none
     all = omega (arith, h .in-cells)
 
@@ -187,9 +190,11 @@ module _ {k W none len : ℕ} {cells : List ℕ} {L w : ℕ} {batch : List ℕ} 
         (sym (entries-more L w batch x ∙ ap (λ (z : Entry). entries L w x batch ++ (z ∷ [])) (t .entry ∙ ap index z))) r);
   }
 
+  -- the parity block isn't full
   live-block : sum (block len cells j) ≢ W
   live-block e = t .live (t .weight ∙ e)
 
+  -- those before it are some of all
   in-all : length (chop len j cells) ≤ none
   in-all = omega (arith, length-chop len j cells, t .a-block)
 
