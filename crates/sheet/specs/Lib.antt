@@ -5,3 +5,4 @@ pub mod LayoutLaws
 pub mod MoveLaws
 pub mod StageLaws
 pub mod ZeroLaws
+pub mod ScanLaws

@@ -1,15 +1,15 @@
 -- Laws of the stage that a staged sheet is in: its rules and its reading are those of that stage. Assumes nothing.
 use mathlib.Core.Path.{_≡_, refl, sym, ap, ap₂, _∙_, subst}
-use mathlib.Core.Bool.{true, false}
+use mathlib.Core.Bool.{Bool, true, false}
 use mathlib.Core.List.{List, map}
 use Prim.Native.Nat.{ℕ, zero, suc, _+_, _-_, _*_, _%_, _^_, _≤_, _<_}
 use native.Mathlib.Decide.{decLt}
 use native.Mathlib.Omega.{arith}
-use lib.ListN.{length, getD, take, drop}
+use lib.ListN.{length, getD, take, drop, replicate}
 use lib.Seq.{drop-drop}
-use Rattle.rules.specs.Search.{Found, at, nowhere, first}
+use Rattle.rules.specs.Search.{pick, Found, at, nowhere, first}
 use Rattle.rules.specs.SearchLaws.{First, hit, miss, first-is}
-use Rattle.rules.specs.Cells.{sum, block, chop}
+use Rattle.rules.specs.Cells.{sum, same?, block, chop}
 use Rattle.rules.specs.Plain.{Spare, BlocksOk}
 use Rattle.rules.specs.Plain as P
 use Rattle.rules.specs.Stage.{StageOk, valueOf}
@@ -19,6 +19,9 @@ use Rattle.rules.specs.Batches.{batchCells, indexCells, batch, sheetAt, decode,
 use Rattle.rules.specs.AcceptLaws.{StagedFacts}
 use Rattle.rules.specs.Calls.{Sound, readBit}
 use Rattle.rules.specs.declared.Settings.{Settings}
+use Rattle.sheet.specs.Meaning.{Levelled}
+use Rattle.sheet.specs.Laws.{partFrom, spare-true, spare-false}
+use Rattle.sheet.specs.LayoutLaws.{inside}
 use Rattle.laws.specs.Kinds.{staged-sound, sound-staged, staged-read}
 
 -- the stages whose batch has a cell above 0: the search that tells the stage
@@ -91,3 +94,16 @@ module _ (r : Settings) (p : StagedFacts r) (f : List ℕ) where
   unfolding batch block
   batch-part d a e = ap (λ (x : ℕ). take (batchCells (r .s) (r .w)) (drop x f)) e
       ∙ ap (take (batchCells (r .s) (r .w))) (sym (drop-drop ((r .s - 2 - d) * batchCells (r .s) (r .w)) (r .m * 2 ^ r .s) f))
+
+-- ---- the spare cells, as they are lent
+
+module _ (r : Settings) (p : StagedFacts r) (f : List ℕ) (v : Levelled r f) (a : ℕ) (e : a ≡ spareAt r) where
+  pub spare-in : a ≤ length f
+  spare-in = omega (arith, inside r p, v .long)
+
+module _ (r : Settings) (f : List ℕ) (v : Levelled r f) (a : ℕ) (e : a ≡ spareAt r) {t : Bool} (q : t ≡ pick (same? (partFrom a f) (replicate (length (partFrom a f)) 0)) true false) where
+  pub spare-clear : t ≡ true → Spare (spareAt r) (r .n) f
+  spare-clear h = subst (λ (x : ℕ). Spare x (r .n) f) e (spare-true a (r .n) f (v .long) q h)
+
+  pub spare-taken : t ≡ false → ¬ (Spare (spareAt r) (r .n) f)
+  spare-taken h s = spare-false a (r .n) f (v .long) q h (subst (λ (x : ℕ). Spare x (r .n) f) (sym e) s)

@@ -5,6 +5,8 @@ use crate::layout::batch_cells;
 use crate::layout::block_cells;
 use crate::layout::parity_count;
 use crate::layout::parity_length;
+use crate::layout::spare_at;
+use block::all_zero;
 use block::raise_block;
 use moving::move_to;
 use plain::Found;
@@ -12,6 +14,8 @@ use plain::place_of;
 use plain::scan_blocks;
 use rules::Answer;
 use rules::Settings;
+use stage::StageScan;
+use stage::scan_stage;
 use staged::Later;
 use staged::Stage;
 use staged::later_stage;
@@ -29,6 +33,7 @@ ghost use Rattle.rules.specs.Search.{nowhere};
 ghost use Rattle.staged.specs.Meaning.{asFound, asLater, laterLeft};
 ghost use Rattle.sheet.specs.Meaning.{Levelled, BitsOf, fromSheet};
 ghost use Rattle.sheet.specs.MoveLaws.{MoveFits, movedSheet, Stuck};
+ghost use Rattle.sheet.specs.ScanLaws.{ScannedAt};
 ghost use Rattle.sheet.specs.StageLaws.{stageFound, AtStage};
 
 // The stage: the highest batch with a cell above 0.
@@ -47,6 +52,47 @@ fn stage0_bits(settings: Settings, sheet: &[u8]) -> Bits
 {
     let cells = block_cells(settings);
     let s = scan_blocks(&sheet[..cells], settings.k, settings.top as u8, settings.m);
+    let weights = s.weights;
+    Bits {
+        sound: s.sound,
+        weights,
+    }
+}
+
+// A scan of the stage with this many left.
+fn scan_at(settings: Settings, sheet: &[u8], left: usize) -> StageScan
+    requires { ⌜ StagedFacts settings × Levelled settings (now sheet) × (left < settings .s - 1) ⌝ }
+    ensures { λ r. ⌜ ScannedAt settings (now (sheet .entry)) left r ⌝ }
+{
+    let cells = block_cells(settings);
+    let at = batch_at(settings, left);
+    let end = at + batch_cells(settings);
+    let len = parity_length(left);
+    let count = parity_count(settings, left);
+    scan_stage(
+        &sheet[..cells],
+        &sheet[at..end],
+        len,
+        count,
+        settings.w,
+        settings.k,
+        settings.top as u8,
+    )
+}
+
+// Check 6 and the reading, at the sheet's stage.
+pub fn staged_bits(settings: Settings, sheet: &[u8]) -> Bits
+    requires { ⌜ StagedFacts settings × Levelled settings (now sheet) ⌝ }
+    ensures { λ b. ⌜ BitsOf settings (now (sheet .entry)) b ⌝ }
+{
+    let a = spare_at(settings);
+    if !all_zero(&sheet[a..]) {
+        return crate::no_bits();
+    }
+    let Stage::Left(left) = stage_left(settings, sheet) else {
+        return stage0_bits(settings, sheet);
+    };
+    let s = scan_at(settings, sheet, left);
     let weights = s.weights;
     Bits {
         sound: s.sound,
