@@ -17,7 +17,7 @@ use Rattle.rules.specs.Cells.{Low, block, sum}
 use Rattle.rules.specs.SearchLaws.{pick-no}
 use Rattle.rules.specs.Stage.{Absent, Entry, Names, closed, index, indexes, liveWeights}
 use Rattle.stage.specs.LiveLaws.{absent-append, indexes-append, live-block-append, live-block-in, live-block-last, names-free, names-new, open-entry-append, open-entry-last, weights-append}
-use Rattle.stage.specs.Meaning.{BatchFits, ClosedFrom, FirstAt, Home, Passed, begun, entryAt, has, hasNot, liveBlock}
+use Rattle.stage.specs.Meaning.{BatchFits, ClosedFrom, FirstAt, Home, Passed, begun, entryAt, has, hasNot, liveBlock, withFree}
 use Rattle.stage.specs.declared.StageScan.{StageScan}
 
 -- ---- a block lent on
@@ -173,7 +173,7 @@ module _ (k W none : ℕ) (bs : List (List ℕ)) (es : List Entry) (s : StageSca
     module _ (place slot weight : ℕ) (p : place ≡ length bs) (o : slot ≡ length es) (v : weight ≡ sum b) where
       -- the first free one
       pub passed-first-free : Absent 0 (indexes es)
-          → Passed k W none (bs ++ (b ∷ [])) (es ++ (index 0 ∷ [])) (record { sound = s .sound; places = s .places; slots = s .slots; weights = s .weights; free = place; «free_slot» = slot; «free_weight» = weight })
+          → Passed k W none (bs ++ (b ∷ [])) (es ++ (index 0 ∷ [])) (withFree s place slot weight)
       passed-first-free a = record {
         sound = g .sound;
         of-64 = g .of-64;

@@ -65,7 +65,7 @@ pub record FirstAt (u : ℕ) (ts : List ℕ) (t : ℕ) : Type 0 where
   pub earlier : (x : ℕ) → x < t → ¬ (getD ts x 0 ≡ u)
 
 -- the block that number u has: the parity block and the index block of the first rank where u stands, and the weight;
--- where u stands nowhere, the parity block's number is none
+-- where u stands nowhere, the parity block's number is none, and the rest is 0
 pub data Home (W none u : ℕ) (bs : List (List ℕ)) (es : List Entry) (place slot weight : ℕ) : Type 0 where
   has : (t : ℕ) → FirstAt u (indexes es) t → place ≡ liveBlock W t bs → slot ≡ openEntry t es → weight ≡ getD (liveWeights W bs) t 0 → Home W none u bs es place slot weight
   hasNot : Absent u (indexes es) → place ≡ none → slot ≡ 0 → weight ≡ 0 → Home W none u bs es place slot weight
@@ -88,6 +88,15 @@ begun none = record { sound = true; places = replicate 64 none; slots = replicat
 -- the scan of a stage that breaks the rules
 abbrev pub broken : StageScan
 broken = record { sound = false; places = replicate 64 0; slots = replicate 64 0; weights = replicate 64 0; free = 0; «free_slot» = 0; «free_weight» = 0 }
+
+-- a scan with its first free block: parity block j of weight v, with index block x
+abbrev pub withFree : StageScan → ℕ → ℕ → ℕ → StageScan
+withFree s j x v = record { sound = s .sound; places = s .places; slots = s .slots; weights = s .weights; free = j; «free_slot» = x; «free_weight» = v }
+
+-- a scan once its parity blocks are passed: no index block that isn't full may be left
+abbrev pub endedBy : StageScan → Live → StageScan
+endedBy s (At x u) = broken
+endedBy s Nowhere = s
 
 -- where a scan stands that has found nothing wrong: the first j of none parity blocks and the first x of q index blocks are passed
 pub record ScanAt (k W none len : ℕ) (cells : List ℕ) (L w : ℕ) (batch : List ℕ) (q j x : ℕ) (s : StageScan) : Type 0 where

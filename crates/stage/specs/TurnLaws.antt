@@ -18,7 +18,7 @@ use Rattle.rules.specs.SearchLaws.{pick-yes}
 use Rattle.rules.specs.Stage.{Entry, Names, StageOk, closed, index, indexes, liveWeights}
 use Rattle.stage.specs.Laws.{home-nowhere, home-there, passed-first-free, passed-free, passed-full, passed-none, passed-own}
 use Rattle.stage.specs.LiveLaws.{indexes-append, names-at, names-once, weights-append}
-use Rattle.stage.specs.Meaning.{ClosedFrom, NextIndex, Passed, ScanAt, StageScanned, Turn, begun, broken, entries, entryAt, next-at, next-nowhere}
+use Rattle.stage.specs.Meaning.{ClosedFrom, NextIndex, Passed, ScanAt, StageScanned, Turn, begun, broken, endedBy, entries, entryAt, next-at, next-nowhere, withFree}
 use Rattle.stage.specs.declared.Live.{Live}
 use Rattle.stage.specs.declared.Live.the-variants.{At, Nowhere}
 use Rattle.stage.specs.declared.StageScan.{StageScan}
@@ -156,25 +156,18 @@ module _ {k W none len : ℕ} {cells : List ℕ} {L w : ℕ} {batch : List ℕ} 
           let a : length (indexes (entries L w q batch)) ≡ length (liveWeights W (chop len j cells)) = moved (h .in-batch) (omega arith) (found-none f e) .passed .as-many in
           omega (arith, ok .0, more-weights W len j none cells l (λ z. n (m ∙ z))))
 
-  module _ {r : Live} (l : none ≤ j) (f : NextIndex L w batch q x r) where
-    -- all parity blocks are passed
-    all : j ≡ none
-    all = omega (arith, h .in-cells)
-
-    -- past the last parity block no index block may be left
-    pub too-many : {s′ : StageScan} (y u : ℕ) → r ≡ At y u → s′ ≡ broken → StageScanned k W (chop len none cells) (entries L w q batch) s′
-    too-many y u e b = scanned-wrong b (λ ok.
-        let o : (x ≤ y) × (y < q) × ClosedFrom L w batch x y × (entryAt L w batch y ≡ index u) = found f e in
-        let a : length (indexes (entries L w y batch)) ≡ length (liveWeights W (chop len none cells)) =
-        moved (o .0) (omega arith) (o .2) .passed .as-many ∙ ap (λ (n : ℕ). length (liveWeights W (chop len n cells))) all in
-        let c : length (indexes (entries L w q batch)) ≡ length (indexes (entries L w y batch) ++ (u ∷ pastIt L w batch q y)) = ap length (among L w batch q y u (o .1) (o .3)) in
-        omega (arith, ok .0, length-append (indexes (entries L w y batch)) (u ∷ pastIt L w batch q y)))
-
-    -- where none is, the scan is right
-    pub all-passed : r ≡ Nowhere → StageScanned k W (chop len none cells) (entries L w q batch) s
-    all-passed e =
-        scanned-right k W none (chop len none cells) (entries L w q batch) s (length-chop len none cells)
-        (subst (λ (n : ℕ). Passed k W none (chop len n cells) (entries L w q batch) s) all (moved (h .in-batch) (omega arith) (found-none f e) .passed))
+  -- past the last parity block no index block may be left
+  pub scan-ended : {r : Live} {s′ : StageScan} → none ≤ j → NextIndex L w batch q x r → s′ ≡ endedBy s r → StageScanned k W (chop len none cells) (entries L w q batch) s′
+  scan-ended l (next-at y u a b c e) p = scanned-wrong p (λ ok.
+      let n : j ≡ none = omega (arith, h .in-cells) in
+      let m : length (indexes (entries L w y batch)) ≡ length (liveWeights W (chop len none cells)) = moved a (omega arith) c .passed .as-many ∙ ap (λ (i : ℕ). length (liveWeights W (chop len i cells))) n in
+      let o : length (indexes (entries L w q batch)) ≡ length (indexes (entries L w y batch) ++ (u ∷ pastIt L w batch q y)) = ap length (among L w batch q y u b e) in
+      omega (arith, ok .0, length-append (indexes (entries L w y batch)) (u ∷ pastIt L w batch q y)))
+  scan-ended l (next-nowhere c) p =
+      let n : j ≡ none = omega (arith, h .in-cells) in
+      subst (StageScanned k W (chop len none cells) (entries L w q batch)) (sym p)
+      (scanned-right k W none (chop len none cells) (entries L w q batch) s (length-chop len none cells)
+      (subst (λ (i : ℕ). Passed k W none (chop len i cells) (entries L w q batch) s) n (moved (h .in-batch) (omega arith) c .passed)))
 
 module _ {k W none len : ℕ} {cells : List ℕ} {L w : ℕ} {batch : List ℕ} {q j x u v : ℕ} {s : StageScan} (t : Turn k W none len cells L w batch q j x u v s) where
   -- the turn ends with both blocks passed
@@ -207,7 +200,7 @@ module _ {k W none len : ℕ} {cells : List ℕ} {L w : ℕ} {batch : List ℕ} 
 
   -- the first free one
   pub turn-first-free : u ≡ 0 → s .free ≡ none
-      → ScanAt k W none len cells L w batch q (j + 1) (x + 1) (record { sound = s .sound; places = s .places; slots = s .slots; weights = s .weights; free = j; «free_slot» = x; «free_weight» = v })
+      → ScanAt k W none len cells L w batch q (j + 1) (x + 1) (withFree s j x v)
   turn-first-free z h =
       let g : Passed k W none (chop len j cells) (entries L w x batch) s = t .here .passed in
       turned 0 _ z (passed-first-free k W none (chop len j cells) (entries L w x batch) s g (block len cells j) live-block j x v

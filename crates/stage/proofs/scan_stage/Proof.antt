@@ -1,13 +1,14 @@
 -- `stage::scan_stage` meets its contract: after j parity blocks the scan holds what they and their index blocks say. Assumes nothing.
 use mathlib.Core.Logic.{⊎-elim}
-use mathlib.Core.Path.{_≡_}
+use mathlib.Core.Path.{_≡_, _∙_}
 use Prim.Native.Nat.{suc, _-_, _*_, _≤_}
 use native.Mathlib.Nat.{mul-le-mul}
 use native.Mathlib.Omega.{arith}
 use borrow.Author.Needs.{needs}
+use borrow.Author.Tests.{ltb-false, ltb-true}
 use Rattle.stage.specs.Laws.{block-inside}
 use Rattle.stage.specs.Meaning.{ScanAt, Turn}
-use Rattle.stage.specs.TurnLaws.{all-passed, scan-begun, too-few, too-great, too-many, turn-begun, turn-first-free, turn-free, turn-full, turn-own, twice}
+use Rattle.stage.specs.TurnLaws.{scan-begun, scan-ended, too-few, too-great, turn-begun, turn-first-free, turn-free, turn-full, turn-own, twice}
 use Rattle.stage.proofs.scan_stage.Statement.{statement}
 use Rattle.stage.proofs.scan_stage.Tie as tie
 
@@ -83,11 +84,8 @@ turn c =
 add-next : tie.Need-add-next Inv-loop μ-loop
 add-next c = omega (arith, turn c .an-index)
 
-unsound-requires-2 : tie.Need-unsound-requires-2 Inv-loop μ-loop
-unsound-requires-2 c κs = search needs
-
-returns-2 : tie.Need-returns-2 Inv-loop μ-loop
-returns-2 c = too-great (turn (c .before .before)) (omega arith) (c .unsound2 .ensures)
+with-free-requires : tie.Need-with-free-requires Inv-loop μ-loop
+with-free-requires c κs = search needs
 
 add-j-2 : tie.Need-add-j-2 Inv-loop μ-loop
 add-j-2 c = search needs
@@ -97,9 +95,9 @@ loop-less-2 c = search needs
 
 loop-again-2 : tie.Need-loop-again-2 Inv-loop μ-loop
 loop-again-2 c =
-    let t = c .before .before .before in
+    let t = c .before .before in
     let z : t .before .slot .given .0 .1 .0 ≡ 0 = omega arith in
-    ⊎-elim (λ w. rw (w .1) (turn-first-free (turn t) z (w .0 .taken))) (λ w. rw (w .1) (turn-free (turn t) z (w .0 .left))) (c .if4 .came)
+    ⊎-elim (λ w. rw (w .2 ∙ w .1 .ensures) (turn-first-free (turn t) z (w .0 .taken))) (λ w. rw (w .1) (turn-free (turn t) z (w .0 .left))) (c .if3 .came)
 
 sub-bit : tie.Need-sub-bit Inv-loop μ-loop
 sub-bit c = search needs
@@ -110,15 +108,15 @@ mul-if5 c = search needs
 element-copy-out-if5 : tie.Need-element-copy-out-if5 Inv-loop μ-loop
 element-copy-out-if5 c = search needs
 
-unsound-requires-3 : tie.Need-unsound-requires-3 Inv-loop μ-loop
-unsound-requires-3 c κs = search needs
+unsound-requires-2 : tie.Need-unsound-requires-2 Inv-loop μ-loop
+unsound-requires-2 c κs = search needs
 
-returns-3 : tie.Need-returns-3 Inv-loop μ-loop
-returns-3 c =
-    let t = c .before .before .before .before .before in
+returns-2 : tie.Need-returns-2 Inv-loop μ-loop
+returns-2 c =
+    let t = c .before .before .before in
     let u = t .before .slot .given .0 .1 .0 in
     let z : u ≡ suc (u - 1) = omega arith in
-    twice (turn t) (u - 1) z (omega arith) (omega arith) (c .unsound3 .ensures)
+    ⊎-elim (λ w. too-great (turn t) (w .taken) (c .unsound2 .ensures)) (λ w. twice (turn t) (u - 1) z (omega (arith, w .0 .left)) (omega (arith, ltb-true, w .2 .taken)) (c .unsound2 .ensures)) (c .before .if4 .came)
 
 mul-s : tie.Need-mul-s Inv-loop μ-loop
 mul-s c = search needs
@@ -149,7 +147,7 @@ loop-again-3 c =
     let t = c .before .before .before .before in
     let u = t .before .slot .given .0 .1 .0 in
     let z : u ≡ suc (u - 1) = omega arith in
-    turn-own (turn t) (u - 1) z (omega arith) (λ h. omega arith)
+    turn-own (turn t) (u - 1) z (omega arith) (λ h. omega (arith, ltb-false))
 
 sub-next-index-2 : tie.Need-sub-next-index-2 Inv-loop μ-loop
 sub-next-index-2 c = search needs
@@ -160,24 +158,13 @@ mul-next-index-2 c = search needs
 next-index-requires-2 : tie.Need-next-index-requires-2 Inv-loop μ-loop
 next-index-requires-2 c κs = search needs
 
-enum-told-2 : tie.Need-enum-told-2 Inv-loop μ-loop
-enum-told-2 c = search needs
+ended-requires : tie.Need-ended-requires Inv-loop μ-loop
+ended-requires c κs = search needs
 
-unsound-requires-4 : tie.Need-unsound-requires-4 Inv-loop μ-loop
-unsound-requires-4 c κs = search needs
-
-returns-4 : tie.Need-returns-4 Inv-loop μ-loop
-returns-4 c =
-    let f = c .before .before .before in
-    too-many (f .before .before .loop .inv) (f .before .loop-test .left) (f .next-index2 .ensures) (c .before .enum-told2 .given .0 .0) (c .before .enum-told2 .given .0 .1 .0) (c .before .enum-told2 .given .1) (c .unsound4 .ensures)
-
-enum-told-3 : tie.Need-enum-told-3 Inv-loop μ-loop
-enum-told-3 c = search needs
-
-returns-5 : tie.Need-returns-5 Inv-loop μ-loop
-returns-5 c =
-    let f = c .before .before in
-    all-passed (f .before .before .loop .inv) (f .before .loop-test .left) (f .next-index2 .ensures) (c .enum-told3 .given .1)
+returns-3 : tie.Need-returns-3 Inv-loop μ-loop
+returns-3 c =
+    let f = c .before in
+    scan-ended (f .before .before .loop .inv) (f .before .loop-test .left) (f .next-index2 .ensures) (c .ended .ensures)
 
 pub scan-stage-spec : {M : Type 1} → statement M
 scan-stage-spec =
@@ -200,16 +187,15 @@ scan-stage-spec =
     unsound-requires
     returns
     add-next
-    unsound-requires-2
-    returns-2
+    with-free-requires
     add-j-2
     loop-less-2
     loop-again-2
     sub-bit
     mul-if5
     element-copy-out-if5
-    unsound-requires-3
-    returns-3
+    unsound-requires-2
+    returns-2
     mul-s
     element-write-s
     mul-s-2
@@ -222,8 +208,5 @@ scan-stage-spec =
     sub-next-index-2
     mul-next-index-2
     next-index-requires-2
-    enum-told-2
-    unsound-requires-4
-    returns-4
-    enum-told-3
-    returns-5)
+    ended-requires
+    returns-3)
