@@ -5,8 +5,8 @@ use Prim.Native.Nat.{_*_, _+_, _-_, _<_, _≤_, suc, zero, zero-le, suc-le-suc, 
 use native.Mathlib.Nat.{add-sub-of-le, le-of-suc-le-suc, le-refl, not-suc-le-zero, sub-zero, suc-inj, suc-sub-suc}
 use native.Mathlib.Numerals.{add-one}
 use native.Mathlib.Omega.{arith}
-use lib.ListN.{drop, getD, length, length-drop, replicate, take}
-use lib.Seq.{getD-append-add, getD-drop, take-suc}
+use lib.ListN.{drop, getD, length, length-drop, replicate, set, take}
+use lib.Seq.{getD-append-add, getD-drop, take-suc, take-suc-set}
 use Rattle.rules.specs.Cells.{Low, Rises, sum, tabulate}
 
 -- ---- sums
@@ -127,3 +127,12 @@ pub tabulate-same : (n : ℕ) (f g : ℕ → ℕ) → ((j : ℕ) → j < n → f
 tabulate-same zero f g h = refl
 tabulate-same (suc n) f g h =
     ap₂ (λ (x : ℕ) (r : List ℕ). x ∷ r) (h 0 (suc-le-suc zero-le)) (tabulate-same n (λ j. f (suc j)) (λ j. g (suc j)) (λ j l. h (suc j) (suc-le-suc l)))
+
+-- what a loop stores: one more value
+pub tabulate-set : (n v : ℕ) (f : ℕ → ℕ) (xs : List ℕ) → n < length xs → v ≡ f n → take n xs ≡ tabulate n f → take (n + 1) (set xs n v) ≡ tabulate (n + 1) f
+tabulate-set n v f xs h e q =
+    ap (λ (x : ℕ). take x (set xs n v)) (add-one n)
+    ∙ take-suc-set xs n v h
+    ∙ ap₂ (λ (r : List ℕ) (x : ℕ). r ++ (x ∷ [])) q e
+    ∙ sym (tabulate-more n f)
+    ∙ ap (λ (x : ℕ). tabulate x f) (sym (add-one n))

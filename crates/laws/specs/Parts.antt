@@ -11,6 +11,7 @@ use Rattle.rules.specs.Cells.{block, chop, join, store}
 
 -- ---- lists of anything
 
+-- two lists mapped
 pub map-append : {A B : Type 0} (f : A → B) (xs ys : List A) → map f (xs ++ ys) ≡ map f xs ++ map f ys
 map-append f [] ys = refl
 map-append {B = B} f (x ∷ xs) ys = ap {B = List B} (λ r. f x ∷ r) (map-append f xs ys)
@@ -67,6 +68,7 @@ block-first : (w : ℕ) (xs : List ℕ) → take w xs ≡ block w xs 0
 unfolding block
 block-first w xs = ap (λ (n : ℕ). take w (drop n xs)) (sym (zero-mul w))
 
+-- block j of the list of the blocks
 pub getD-chop : (w n : ℕ) (xs : List ℕ) (j : ℕ) → j < n → getD (chop w n xs) j [] ≡ block w xs j
 getD-chop w zero xs j h = absurd (not-suc-le-zero h)
 getD-chop w (suc n) xs zero h = block-first w xs

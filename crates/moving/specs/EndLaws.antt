@@ -1,6 +1,6 @@
 -- Laws of the move's end: the index blocks past those of the live blocks are filled, and the levels raised in all. Assumes nothing.
 use mathlib.Core.List.{List, _++_, map}
-use mathlib.Core.Path.{_≡_, _∙_, ap, ap₂, subst, sym}
+use mathlib.Core.Path.{_≡_, _∙_, ap, subst, sym}
 use Prim.Native.Nat.{ℕ, _+_, _-_, _*_, _≤_}
 use native.Mathlib.Nat.{mul-le-mul-right}
 use native.Mathlib.Omega.{arith}
@@ -14,7 +14,7 @@ use Rattle.laws.specs.Splice.{length-spliced, part, part-spliced, past-spliced,
 use Rattle.rules.specs.Batches.{entryCells}
 use Rattle.rules.specs.Cells.{Low, chop, join, sum}
 use Rattle.rules.specs.Stage.{Entry, closed, liveWeights, recordedEntries}
-use Rattle.moving.specs.GoingLaws.{blocks-room, index-room, met-few, same-long}
+use Rattle.moving.specs.GoingLaws.{index-room, met-few}
 use Rattle.moving.specs.Laws.{cells-append, cells-closed}
 use Rattle.moving.specs.Meaning.{Going, Roomy, batchAfter, moved, movedUpTo, numberCells, parityCells}
 use Rattle.moving.specs.MoveLaws.{numbers-long, parity-long}
@@ -25,6 +25,13 @@ bytes-small a n xs h l =
     let low : Low 255 (part a n xs) = low-take 255 n (drop a xs) (low-drop 255 a xs (low-all 255 xs (λ c q. h c))) in
     let m : length (part a n xs) ≤ 65536 = omega (arith, length-take n (drop a xs)) in
     omega (arith, sum-low 255 (part a n xs) low, mul-le-mul-right {m = length (part a n xs)} {n = 65536} 255 m)
+
+-- the rest filled and put back
+pub rest-back : (rest n L : ℕ) (f ys : List ℕ) → rest + n ≤ length f → ys ≡ replicate (length (part rest n f)) L → putMid rest n f ys ≡ spliced rest (replicate n L) f
+rest-back rest n L f ys h e =
+    let l : length (part rest n f) ≡ n = length-take-le n (drop rest f) (omega (arith, length-drop rest f)) in
+    let y : ys ≡ replicate n L = e ∙ ap (λ (x : ℕ). replicate x L) l in
+    spliced-put rest n ys f (ap length y ∙ length-replicate n L) ∙ ap (λ (r : List ℕ). spliced rest r f) y
 
 -- once no parity block is left, all of them have been met
 pub all-met : {at len count w L : ℕ} {vs f₀ f : List ℕ} {raised u j : ℕ} → Going at len count w L vs f₀ f raised u j → count ≤ j → Going at len count w L vs f₀ f raised u count
@@ -45,70 +52,77 @@ batch-is len count w k L u n vs f m h e =
     ∙ sym (cells-append L w es (replicate t closed))
 
 module _ (at len count w k L : ℕ) (vs f₀ : List ℕ) where
+  -- the parity cells after the move
   abbrev P : List ℕ
   P = parityCells (len * L) L vs (chop len count f₀)
 
+  -- the index cells of the live blocks
   abbrev E : List ℕ
   E = numberCells (len * L) L w 1 vs (chop len count f₀)
 
+  -- the whole batch
   abbrev B : List ℕ
   B = batchAfter len count w k L vs f₀
 
   module _ (g : Roomy at len count w k L f₀) {f : List ℕ} {raised u : ℕ} (i : Going at len count w L vs f₀ f raised u count) where
+    -- no more live blocks than index blocks
     few : u ≤ 2 * (k - 1)
     few = met-few g i
 
+    -- the rest of the batch begins in the sheet
     begins : at + u * w ≤ length f₀
     begins = index-room g i
 
+    -- as many parity cells as before
     front : length P ≡ count * len
     front = parity-long at len w L vs f₀ count u (g .low) (i .met) (g .ordered) begins
 
+    -- and w index cells for each live block
+    numbers : length E ≡ u * w
+    numbers = numbers-long at len w L vs f₀ count u (g .low) (i .met) (g .ordered) begins
+
+    -- the parity cells alone leave the length
     length-front : length (spliced 0 P f₀) ≡ length f₀
     length-front = length-spliced 0 P f₀ (omega (arith, front, g .ordered))
 
-    module _ (n : ℕ) (rest : n + u * w ≡ 2 * (k - 1) * w) (ys : List ℕ) (fills : ys ≡ replicate (length (part (at + u * w) n f)) L) where
-      ys-is : ys ≡ replicate n L
-      ys-is =
-          let l : length (part (at + u * w) n f) ≡ n =
-          length-take-le n (drop (at + u * w) f) (omega (arith, length-drop (at + u * w) f, same-long g i, g .inside)) in
-          fills ∙ ap (λ (x : ℕ). replicate x L) l
+    module _ (n : ℕ) (rest : n + u * w ≡ 2 * (k - 1) * w) where
+      -- the rest of the batch completes it
+      batch : E ++ replicate n L ≡ B
+      batch = batch-is len count w k L u n vs f₀ (i .met) few rest
 
-      batch : E ++ ys ≡ B
-      batch = ap (λ (r : List ℕ). E ++ r) ys-is ∙ batch-is len count w k L u n vs f₀ (i .met) few rest
-
+      -- to 2 (k - 1) index blocks
       length-batch : length B ≡ 2 * (k - 1) * w
-      length-batch =
-          ap length (sym batch) ∙ omega (arith, length-append E ys, ap length ys-is, length-replicate n L, numbers-long at len w L vs f₀ count u (g .low) (i .met) (g .ordered) begins)
+      length-batch = ap length (sym batch) ∙ omega (arith, length-append E (replicate n L), length-replicate n L, numbers)
 
-      -- the sheet with the rest of the batch put back
-      filled : putMid (at + u * w) n f ys ≡ spliced at B (spliced 0 P f₀)
+      -- the rest of the batch filled is the whole batch set
+      filled : spliced (at + u * w) (replicate n L) f ≡ spliced at B (spliced 0 P f₀)
       unfolding movedUpTo
       filled =
-          spliced-put (at + u * w) n ys f (ap length ys-is ∙ length-replicate n L)
-          ∙ ap (spliced (at + u * w) ys) (i .reached)
-          ∙ sym (spliced-append at (at + u * w) E ys (spliced 0 P f₀) (omega (arith, numbers-long at len w L vs f₀ count u (g .low) (i .met) (g .ordered) begins)) (omega (arith, length-front)))
+          ap (spliced (at + u * w) (replicate n L)) (i .reached)
+          ∙ sym (spliced-append at (at + u * w) E (replicate n L) (spliced 0 P f₀) (omega (arith, numbers)) (omega (arith, length-front)))
           ∙ ap (λ (r : List ℕ). spliced at r (spliced 0 P f₀)) batch
 
-      pub length-filled : length (putMid (at + u * w) n f ys) ≡ length f₀
-      length-filled = ap length filled ∙ length-spliced at B (spliced 0 P f₀) (omega (arith, length-batch, length-front, g .inside)) ∙ length-front
+      module _ (f′ : List ℕ) (last : f′ ≡ spliced (at + u * w) (replicate n L) f) where
+        -- that is the sheet after the move
+        pub move-done : f′ ≡ moved at len count w k L vs f₀
+        unfolding moved parityCells
+        move-done =
+            last
+            ∙ filled
+            ∙ spliced-two P at B f₀ (at + 2 * (k - 1) * w) (omega (arith, length-batch)) (omega (arith, front, g .ordered)) (omega (arith, g .inside))
+            ∙ ap (λ (x : ℕ). P ++ (drop x (take at f₀) ++ (B ++ drop (at + 2 * (k - 1) * w) f₀))) front
 
-      -- is the sheet after the move
-      pub move-done : putMid (at + u * w) n f ys ≡ moved at len count w k L vs f₀
-      unfolding moved parityCells
-      move-done =
-          filled
-          ∙ spliced-two P at B f₀ (at + 2 * (k - 1) * w) (omega (arith, length-batch)) (omega (arith, front, g .ordered)) (omega (arith, g .inside))
-          ∙ ap (λ (x : ℕ). P ++ (drop x (take at f₀) ++ (B ++ drop (at + 2 * (k - 1) * w) f₀))) front
-
-      -- the batch was 0, so its levels are all raised
-      pub move-sum : (s : ℕ) → s ≡ sum (part at (2 * (k - 1) * w) (putMid (at + u * w) n f ys)) → raised + s + sum f₀ ≡ sum (putMid (at + u * w) n f ys)
-      move-sum s e =
-          let b : s ≡ sum B = e ∙ ap (λ (r : List ℕ). sum (part at (2 * (k - 1) * w) r)) filled ∙ ap sum (part-spliced at (2 * (k - 1) * w) B (spliced 0 P f₀) length-batch (omega (arith, length-front, g .inside))) in
-          let o : part at (length B) (spliced 0 P f₀) ≡ replicate (2 * (k - 1) * w) 0 =
-          ap (λ (x : ℕ). part at x (spliced 0 P f₀)) length-batch
-          ∙ ap (take (2 * (k - 1) * w)) (past-spliced 0 P f₀ at (omega (arith, front, g .ordered)) (omega (arith, front, g .ordered, g .inside)))
-          ∙ g .blank in
-          let z : sum (part at (length B) (spliced 0 P f₀)) ≡ 0 = ap sum o ∙ sum-replicate (2 * (k - 1) * w) 0 ∙ omega arith in
-          let p : sum (part 0 (length P) f₀) ≡ sum (take (count * len) f₀) = ap (λ (x : ℕ). sum (take x f₀)) front in
-          omega (arith, ap sum filled, sum-spliced at B (spliced 0 P f₀), sum-spliced 0 P f₀, i .adds)
+        -- the batch was 0, so its levels are all raised
+        pub move-sum : (s : ℕ) → s ≡ sum (part at (2 * (k - 1) * w) f′) → raised + s + sum f₀ ≡ sum f′
+        move-sum s e =
+            let b : s ≡ sum B =
+            e
+            ∙ ap (λ (r : List ℕ). sum (part at (2 * (k - 1) * w) r)) (last ∙ filled)
+            ∙ ap sum (part-spliced at (2 * (k - 1) * w) B (spliced 0 P f₀) length-batch (omega (arith, length-front, g .inside))) in
+            let o : part at (length B) (spliced 0 P f₀) ≡ replicate (2 * (k - 1) * w) 0 =
+            ap (λ (x : ℕ). part at x (spliced 0 P f₀)) length-batch
+            ∙ ap (take (2 * (k - 1) * w)) (past-spliced 0 P f₀ at (omega (arith, front, g .ordered)) (omega (arith, front, g .ordered, g .inside)))
+            ∙ g .blank in
+            let z : sum (part at (length B) (spliced 0 P f₀)) ≡ 0 = ap sum o ∙ sum-replicate (2 * (k - 1) * w) 0 ∙ omega arith in
+            let p : sum (part 0 (length P) f₀) ≡ sum (take (count * len) f₀) = ap (λ (x : ℕ). sum (take x f₀)) front in
+            omega (arith, ap sum (last ∙ filled), sum-spliced at B (spliced 0 P f₀), sum-spliced 0 P f₀, i .adds)

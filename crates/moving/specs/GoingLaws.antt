@@ -1,27 +1,24 @@
--- Laws of how far the move has come: at first, after a full block, after a live block, and in the end. Assumes nothing.
-use mathlib.Core.List.{List, [], _∷_, _++_, map}
+-- Laws of how far the move has come: at first, after a full block and after a live block. Assumes nothing.
+use mathlib.Core.List.{List, [], _∷_}
 use mathlib.Core.Logic.{_≢_}
-use mathlib.Core.Path.{_≡_, _∙_, ap, ap₂, refl, subst, sym}
-use Prim.Native.Nat.{ℕ, zero, suc, _+_, _-_, _*_, _^_, _≤_, _<_}
+use mathlib.Core.Path.{_≡_, _∙_, ap, subst, sym}
+use Prim.Native.Nat.{ℕ, suc, _+_, _-_, _*_, _≤_, _<_}
 use native.Mathlib.Nat.{mul-le-mul-right}
 use native.Mathlib.Omega.{arith}
-use borrow.Rule.Slice.PartMut.{putMid}
-use lib.ListN.{length, take, drop, replicate, length-append, length-drop, length-replicate}
-use lib.Seq.{drop-drop, length-take-le, take-take}
-use Rattle.laws.specs.Chop.{chop-sized, length-chop}
-use Rattle.laws.specs.Lists.{drop-replicate, low-drop, low-take, sum-replicate, take-replicate}
+use lib.ListN.{length, take, drop, replicate, length-drop}
+use lib.Seq.{length-take-le}
+use Rattle.laws.specs.Lists.{drop-replicate, low-drop, low-take, take-replicate}
 use Rattle.laws.specs.Live.{count-full, count-more, live, live-none}
-use Rattle.laws.specs.Splice.{drop-take, length-spliced, part, part-part, part-spliced, past-spliced, spliced, spliced-append, spliced-none, spliced-put, spliced-two, sum-spliced}
+use Rattle.laws.specs.Splice.{part, part-part, spliced, spliced-none}
 use Rattle.laws.specs.Stage.{Sized}
-use Rattle.rules.specs.Batches.{entryCells}
-use Rattle.rules.specs.Cells.{Low, block, chop, join, sum}
-use Rattle.rules.specs.Stage.{Entry, closed, liveWeights, recordedEntries}
-use Rattle.moving.specs.Laws.{cells-append, cells-closed, length-number, length-parity, parity-full, parity-le}
-use Rattle.moving.specs.Meaning.{Apart, Going, Roomy, liveAt, moved, movedUpTo, numberCells, parityCells}
+use Rattle.rules.specs.Cells.{Low, block, chop, sum}
+use Rattle.moving.specs.Laws.{length-parity, parity-full, parity-le}
+use Rattle.moving.specs.Meaning.{Apart, Going, Roomy, liveAt, movedUpTo, numberCells, parityCells}
 use Rattle.moving.specs.MoveLaws.{batch-ahead, block-ahead, full-turn, length-up-to, live-grows, live-turn, sum-before, sum-more}
 
 -- ---- at first
 
+-- no block has been met
 pub going-first : (at len count w L : ℕ) (vs f : List ℕ) → Going at len count w L vs f f 0 0 0
 unfolding movedUpTo parityCells numberCells
 going-first at len count w L vs f =
@@ -43,11 +40,12 @@ module _ {at len count w k L : ℕ} {vs f₀ : List ℕ} (g : Roomy at len count
   pub rest-room : u * w ≤ 2 * (k - 1) * w
   rest-room = mul-le-mul-right {m = u} {n = 2 * (k - 1)} w met-few
 
+  -- and the next one begins in the sheet
   pub index-room : at + u * w ≤ length f₀
   index-room = omega (arith, rest-room, g .inside)
 
   -- the parity blocks met lie before the batch
-  pub blocks-room : j * len ≤ at
+  blocks-room : j * len ≤ at
   blocks-room = omega (arith, mul-le-mul-right {m = j} {n = count} len (i .within), g .ordered)
 
   -- the sheet keeps its length
@@ -56,9 +54,10 @@ module _ {at len count w k L : ℕ} {vs f₀ : List ℕ} (g : Roomy at len count
 
   module _ (more : j < count) where
     -- the next parity block lies before the batch too
-    pub block-room : j * len + len ≤ at
+    block-room : j * len + len ≤ at
     block-room = omega (arith, mul-le-mul-right {m = suc j} {n = count} len more, g .ordered)
 
+    -- and in the sheet
     pub block-inside : j * len + len ≤ length f
     block-inside = omega (arith, block-room, g .inside, same-long)
 
@@ -66,14 +65,17 @@ module _ {at len count w k L : ℕ} {vs f₀ : List ℕ} (g : Roomy at len count
     block-same : part (j * len) len f ≡ part (j * len) len f₀
     block-same = ap (part (j * len) len) (i .reached) ∙ block-ahead at len w L vs f₀ j u (g .low) (i .met) blocks-room index-room block-room
 
+    -- so no level of it is above L
     block-low : Low L (part (j * len) len f)
     block-low = subst (Low L) (sym block-same) (low-take L len (drop (j * len) f₀) (low-drop L (j * len) f₀ (g .low)))
 
+    -- and it has len cells
     length-block : length (part (j * len) len f₀) ≡ len
     length-block = length-take-le len (drop (j * len) f₀) (omega (arith, length-drop (j * len) f₀, block-room, g .inside))
 
     -- ---- a full block
 
+    -- it is passed over
     pub going-full : sum (part (j * len) len f) ≡ len * L → Going at len count w L vs f₀ f raised u (j + 1)
     unfolding block live
     going-full e =
@@ -96,19 +98,21 @@ module _ {at len count w k L : ℕ} {vs f₀ : List ℕ} (g : Roomy at len count
     -- ---- a live block
 
     module _ (n : sum (part (j * len) len f) ≢ len * L) where
+      -- one more live block is met
       live-next : live (len * L) (chop len (j + 1) f₀) ≡ u + 1
       unfolding block live
       live-next = count-more (len * L) len j f₀ (λ e. n (ap sum block-same ∙ e)) ∙ ap (λ (x : ℕ). x + 1) (sym (i .met))
 
       -- there is an index block for it
-      pub next-few : u + 1 ≤ 2 * (k - 1)
+      next-few : u + 1 ≤ 2 * (k - 1)
       next-few = omega (arith, live-next, live-grows (len * L) len (j + 1) count f₀ (omega arith), g .enough)
 
-      pub next-room : at + u * w + w ≤ length f₀
+      -- that lies in the sheet
+      next-room : at + u * w + w ≤ length f₀
       next-room = omega (arith, mul-le-mul-right {m = u + 1} {n = 2 * (k - 1)} w next-few, g .inside)
 
       -- it and its index block are apart
-      pub live-apart : Apart (j * len) len (at + u * w) w f
+      live-apart : Apart (j * len) len (at + u * w) w f
       live-apart = record { ordered = omega (arith, block-room); inside = omega (arith, next-room, same-long); short = omega (arith, g .short, same-long) }
 
       -- its index block is still 0
@@ -126,6 +130,7 @@ module _ {at len count w k L : ℕ} {vs f₀ : List ℕ} (g : Roomy at len count
       pub live-asks : Apart (j * len) len (at + u * w) w f × Low L (part (j * len) len f) × (sum (part (j * len) len f) ≢ len * L)
       live-asks = (live-apart, block-low, n)
 
+      -- it is met by its rule, and the levels it gains are counted
       pub going-live : (f′ : List ℕ) (r : ℕ) → f′ ≡ liveAt (j * len) len (at + u * w) w L u vs f
           → r + sum (part (j * len) len f) ≡ sum (parityCells (len * L) L (drop u vs) (part (j * len) len f ∷ []))
           → Going at len count w L vs f₀ f′ (raised + r) (u + 1) (j + 1)

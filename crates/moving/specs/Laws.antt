@@ -39,10 +39,12 @@ length-entry L w (index u) = length-digits (suc L) w u
 
 -- ---- blocks one after the other
 
+-- the cells of parity blocks
 join-append : (bs cs : List (List ℕ)) → join (bs ++ cs) ≡ join bs ++ join cs
 join-append [] cs = refl
 join-append (b ∷ bs) cs = ap (λ (r : List ℕ). b ++ r) (join-append bs cs) ∙ sym (append-assoc b (join bs) (join cs))
 
+-- the cells of index blocks
 pub cells-append : (L w : ℕ) (es gs : List Entry) → join (map (entryCells L w) (es ++ gs)) ≡ join (map (entryCells L w) es) ++ join (map (entryCells L w) gs)
 cells-append L w [] gs = refl
 cells-append L w (e ∷ es) gs =
@@ -125,6 +127,7 @@ number-append W L w u n vs bs cs q =
 
 -- ---- lengths
 
+-- the parity blocks have as many cells as before
 pub length-parity : (W L w : ℕ) (vs : List ℕ) (bs : List (List ℕ)) → Sized w L bs → length (parityCells W L vs bs) ≡ length bs * w
 unfolding parityCells
 length-parity W L w vs [] h = omega arith
@@ -134,6 +137,7 @@ length-parity W L w (v ∷ vs) (b ∷ bs) h =
     (λ e. omega (arith, length-append b (join (recordAll W L (v ∷ vs) bs)), h .0, length-parity W L w (v ∷ vs) bs (h .2)))
     (λ e. omega (arith, length-append (recorded L v b) (join (recordAll W L vs bs)), length-recorded L v b, h .0, length-parity W L w vs bs (h .2)))
 
+-- and each live block has an index block of w cells
 pub length-number : (W L w u : ℕ) (vs : List ℕ) (bs : List (List ℕ)) → length (numberCells W L w u vs bs) ≡ live W bs * w
 unfolding numberCells live
 length-number W L w u vs [] = omega arith
@@ -156,22 +160,24 @@ length-number W L w u (v ∷ vs) (b ∷ bs) =
 -- ---- one block alone
 
 module _ (W L w u : ℕ) (b : List ℕ) where
-  -- a full block stays, and has no index block
+  -- a full block stays
   pub parity-full : (vs : List ℕ) → sum b ≡ W → parityCells W L vs (b ∷ []) ≡ b
   unfolding parityCells
   parity-full [] e = append-nil b
   parity-full (v ∷ vs) e = ap join (pick-yes (ℕ-discrete (sum b) W) (b ∷ []) (recorded L v b ∷ []) e) ∙ append-nil b
 
+  -- and has no index block
   pub number-full : (vs : List ℕ) → sum b ≡ W → numberCells W L w u vs (b ∷ []) ≡ []
   unfolding numberCells
   number-full [] e = ap (λ (r : List Entry). join (map (entryCells L w) r)) (pick-yes (ℕ-discrete (sum b) W) [] (index 0 ∷ []) e)
   number-full (v ∷ vs) e = ap (λ (r : List Entry). join (map (entryCells L w) r)) (pick-yes (ℕ-discrete (sum b) W) [] _ e)
 
-  -- a live block with no value to record stays, and its index block is 0
+  -- a live block with no value to record stays
   pub parity-free : parityCells W L [] (b ∷ []) ≡ b
   unfolding parityCells
   parity-free = append-nil b
 
+  -- and its index block is 0
   pub number-free : sum b ≢ W → numberCells W L w u [] (b ∷ []) ≡ replicate w 0
   unfolding numberCells
   number-free n =

@@ -6,3 +6,4 @@ pub mod MoveLaws
 pub mod GoingLaws
 pub mod EndLaws
 pub mod RulesLaws
+pub mod Worked

@@ -2,7 +2,7 @@
 -- The sheet f begins with `count` parity blocks of `len` cells; the stage's batch begins at cell `at`; W = len * L is the weight of a full parity block.
 use mathlib.Core.List.{List, [], _∷_, _++_, map}
 use mathlib.Core.Path.{_≡_}
-use Prim.Native.Nat.{ℕ, suc, _+_, _-_, _*_, _^_, _≤_, _<_}
+use Prim.Native.Nat.{ℕ, suc, _+_, _-_, _*_, _^_, _≤_}
 use native.Mathlib.Decide.{ℕ-discrete}
 use lib.ListN.{length, take, drop, replicate}
 use Rattle.laws.specs.Live.{live}

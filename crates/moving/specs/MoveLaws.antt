@@ -1,32 +1,31 @@
--- Laws of the move: what one more parity block adds to the sheet, and what the last index blocks make of it. Assumes nothing.
-use mathlib.Core.List.{List, [], _∷_, _++_, map}
+-- Laws of the move, block by block: what a live block leaves, and what one more parity block adds to the sheet. Assumes nothing.
+use mathlib.Core.List.{List, [], _∷_, _++_}
 use mathlib.Core.Logic.{_≢_}
-use mathlib.Core.Path.{_≡_, _∙_, ap, ap₂, refl, subst, sym}
-use Prim.Native.Nat.{ℕ, zero, suc, _+_, _-_, _*_, _^_, _≤_, _<_}
+use mathlib.Core.Path.{_≡_, _∙_, ap, ap₂, sym}
+use Prim.Native.Nat.{ℕ, zero, suc, _+_, _*_, _≤_, _<_}
 use native.Mathlib.Decide.{ℕ-discrete}
-use native.Mathlib.Nat.{le-of-suc-le-suc, mul-le-mul-right, not-suc-le-zero, zero-mul}
+use native.Mathlib.Nat.{le-of-suc-le-suc, not-suc-le-zero}
 use native.Mathlib.Numerals.{add-one}
 use native.Mathlib.Omega.{arith}
-use borrow.Rule.Slice.PartMut.{putMid}
-use lib.ListN.{length, getD, take, drop, replicate, drop-of-length-le, length-append, length-drop, length-replicate, length-take}
+use lib.ListN.{length, getD, take, drop, replicate, drop-of-length-le, length-drop, length-take}
 use lib.Seq.{drop-cons, getD-take, length-take-le, take-add}
 use Rattle.laws.specs.Chop.{chop-sized, length-chop}
-use Rattle.laws.specs.Lists.{sum-append, sum-replicate}
-use Rattle.laws.specs.Live.{chop-snoc, count-full, count-more, live, live-full, live-more, live-none}
-use Rattle.laws.specs.Splice.{before-spliced, length-spliced, part, part-spliced, past-spliced, spliced, spliced-apart, spliced-append, spliced-back, spliced-none, spliced-put, spliced-two, sum-spliced}
-use Rattle.rules.specs.Batches.{entryCells}
-use Rattle.rules.specs.Cells.{Low, block, chop, join, sum}
-use Rattle.rules.specs.Stage.{Entry, closed, liveWeights, recorded, recordedEntries}
-use Rattle.moving.specs.Laws.{cells-append, cells-closed, length-number, length-parity, number-append, number-free, number-full, number-live, parity-append, parity-free, parity-full, parity-live}
-use Rattle.moving.specs.Meaning.{Apart, Going, Roomy, liveAt, moved, movedUpTo, numberCells, parityCells, recordedAt}
+use Rattle.laws.specs.Lists.{sum-append}
+use Rattle.laws.specs.Live.{chop-snoc, live, live-full, live-more, live-none}
+use Rattle.laws.specs.Splice.{before-spliced, length-spliced, part, past-spliced, spliced, spliced-apart, spliced-append, spliced-back, spliced-none}
+use Rattle.rules.specs.Cells.{Low, block, chop, sum}
+use Rattle.rules.specs.Stage.{recorded}
+use Rattle.moving.specs.Laws.{length-number, length-parity, number-append, number-free, number-full, number-live, parity-append, parity-free, parity-full, parity-live}
+use Rattle.moving.specs.Meaning.{Apart, liveAt, movedUpTo, numberCells, parityCells, recordedAt}
 
 -- ---- one live block
 
 module _ (a len b w L u k : ℕ) (vs f : List ℕ) (n : sum (part a len f) ≢ len * L) where
-  -- with no value left nothing moves
+  -- past the first k live blocks no value is left
   none-left : k ≤ u → drop u (take k vs) ≡ []
   none-left h = drop-of-length-le (take k vs) {i = u} (omega (arith, length-take k vs))
 
+  -- then nothing moves
   pub free-block : Apart a len b w f → part b w f ≡ replicate w 0 → k ≤ u → f ≡ liveAt a len b w L u (take k vs) f
   unfolding liveAt
   free-block g z h =
@@ -39,23 +38,26 @@ module _ (a len b w L u k : ℕ) (vs f : List ℕ) (n : sum (part a len f) ≢ l
       ∙ spliced-back b w f (g .inside)
       )
 
+  -- and no level is raised
   pub free-sum : k ≤ u → 0 + sum (part a len f) ≡ sum (parityCells (len * L) L (drop u (take k vs)) (part a len f ∷ []))
   free-sum h =
       let e : parityCells (len * L) L (drop u (take k vs)) (part a len f ∷ []) ≡ part a len f =
       ap (λ (r : List ℕ). parityCells (len * L) L r (part a len f ∷ [])) (none-left h) ∙ parity-free (len * L) L w (u + 1) (part a len f) in
       omega (arith, ap sum e)
 
-  -- else the next value is recorded
+  -- else there is a next value
   next-value : u < k → k ≤ length vs → drop u (take k vs) ≡ getD vs u 0 ∷ drop (suc u) (take k vs)
   next-value h l =
       drop-cons (take k vs) u 0 (omega (arith, length-take-le k vs l))
       ∙ ap {B = List ℕ} (λ x. x ∷ drop (suc u) (take k vs)) (getD-take k vs u 0 h)
 
+  -- the block records it
   next-parity : u < k → k ≤ length vs → parityCells (len * L) L (drop u (take k vs)) (part a len f ∷ []) ≡ recorded L (getD vs u 0) (part a len f)
   next-parity h l =
       ap (λ (r : List ℕ). parityCells (len * L) L r (part a len f ∷ [])) (next-value h l)
       ∙ parity-live (len * L) L w (u + 1) (part a len f) (getD vs u 0) (drop (suc u) (take k vs)) n
 
+  -- and is left with its index block as the rules say
   pub next-block : u < k → k ≤ length vs → (f′ : List ℕ) (number : ℕ) → f′ ≡ recordedAt a len b w L number (getD vs u 0) f → number ≡ u + 1
       → f′ ≡ liveAt a len b w L u (take k vs) f
   unfolding liveAt recordedAt
@@ -68,8 +70,9 @@ module _ (a len b w L u k : ℕ) (vs f : List ℕ) (n : sum (part a len f) ≢ l
       ∙ number-live (len * L) L w (u + 1) (part a len f) (getD vs u 0) (drop (suc u) (take k vs)) n)
       )
 
-  pub next-sum : u < k → k ≤ length vs → sum (recorded L (getD vs u 0) (part a len f)) ≡ sum (parityCells (len * L) L (drop u (take k vs)) (part a len f ∷ []))
-  next-sum h l = ap sum (sym (next-parity h l))
+  -- and with the weight that the rules say
+  pub next-sum : u < k → k ≤ length vs → (x : ℕ) → x ≡ sum (recorded L (getD vs u 0) (part a len f)) → x ≡ sum (parityCells (len * L) L (drop u (take k vs)) (part a len f ∷ []))
+  next-sum h l x e = e ∙ ap sum (sym (next-parity h l))
 
 -- ---- one parity block more
 
@@ -84,24 +87,28 @@ live-grows W w (suc j) (suc n) xs h = go (ℕ-discrete (sum (take w xs)) W) (liv
     go (no e) l = omega (arith, live-more W (take w xs) (chop w j (drop w xs)) e, live-more W (take w xs) (chop w n (drop w xs)) e)
 
 module _ (at len w L : ℕ) (vs f : List ℕ) (j u : ℕ) where
-  -- the parity cells of the blocks met, their index cells, and the next block
+  -- the parity cells of the blocks met
   abbrev P : List ℕ
   P = parityCells (len * L) L vs (chop len j f)
 
+  -- their index cells
   abbrev E : List ℕ
   E = numberCells (len * L) L w 1 vs (chop len j f)
 
+  -- the next block
   abbrev b : List ℕ
   b = part (j * len) len f
 
   module _ (low : Low L f) (met : u ≡ live (len * L) (chop len j f)) (here : j * len ≤ at) (room : at + u * w ≤ length f) where
-    -- as many parity cells as before, and w index cells for each live block
+    -- as many parity cells as before
     pub parity-long : length P ≡ j * len
     parity-long = length-parity (len * L) L len vs (chop len j f) (chop-sized len L j f (omega arith) low) ∙ ap (λ (x : ℕ). x * len) (length-chop len j f)
 
+    -- and w index cells for each live block
     pub numbers-long : length E ≡ u * w
     numbers-long = length-number (len * L) L w 1 vs (chop len j f) ∙ ap (λ (x : ℕ). x * w) (sym met)
 
+    -- the parity cells alone leave the length
     length-front : length (spliced 0 P f) ≡ length f
     length-front = length-spliced 0 P f (omega (arith, parity-long))
 
@@ -125,16 +132,19 @@ module _ (at len w L : ℕ) (vs f : List ℕ) (j u : ℕ) where
           before-spliced at E (spliced 0 P f) (j * len) len more (omega (arith, length-front))
           ∙ ap (take len) (past-spliced 0 P f (j * len) (omega (arith, parity-long)) (omega (arith, parity-long)))
 
+      -- the blocks met, with the next one
       snoc : chop len (j + 1) f ≡ chop len j f ++ (b ∷ [])
       unfolding block
       snoc = ap (λ (n : ℕ). chop len n f) (add-one j) ∙ chop-snoc len j f
 
+      -- their parity cells
       more-parity : parityCells (len * L) L vs (chop len (j + 1) f) ≡ P ++ parityCells (len * L) L (drop u vs) (b ∷ [])
       more-parity =
           ap (parityCells (len * L) L vs) snoc
           ∙ parity-append (len * L) L vs (chop len j f) (b ∷ [])
           ∙ ap (λ (x : ℕ). P ++ parityCells (len * L) L (drop x vs) (b ∷ [])) (sym met)
 
+      -- and their index cells
       more-numbers : numberCells (len * L) L w 1 vs (chop len (j + 1) f) ≡ E ++ numberCells (len * L) L w (u + 1) (drop u vs) (b ∷ [])
       more-numbers =
           ap (numberCells (len * L) L w 1 vs) snoc
@@ -145,6 +155,7 @@ module _ (at len w L : ℕ) (vs f : List ℕ) (j u : ℕ) where
       pub sum-more : sum (parityCells (len * L) L vs (chop len (j + 1) f)) ≡ sum P + sum (parityCells (len * L) L (drop u vs) (b ∷ []))
       sum-more = ap sum more-parity ∙ sum-append P (parityCells (len * L) L (drop u vs) (b ∷ []))
 
+      -- and so did the cells before the move
       pub sum-before : sum (take ((j + 1) * len) f) ≡ sum (take (j * len) f) + sum b
       sum-before =
           let e : (j + 1) * len ≡ j * len + len = omega arith in

@@ -7,7 +7,7 @@ use native.Mathlib.Decide.{ℕ-discrete}
 use native.Mathlib.Nat.{mul-le-mul}
 use native.Mathlib.Omega.{arith}
 use borrow.Rule.Slice.PartMut.{putMid}
-use lib.ListN.{length, take, drop, length-drop}
+use lib.ListN.{length, drop, length-drop}
 use lib.Seq.{length-take-le}
 use Rattle.block.specs.StateLaws.{sum-low}
 use Rattle.laws.specs.Splice.{length-spliced, part, spliced, spliced-put}
@@ -42,6 +42,7 @@ module _ (a len b w L : ℕ) (f : List ℕ) (g : Apart a len b w f) where
       omega (arith, recorded-le L v (part a len f), ap sum y, full-small len L l t)
 
   module _ (u v : ℕ) (ys : List ℕ) (y : ys ≡ recorded L v (part a len f)) where
+    -- a block that records a value keeps its length
     length-new : length ys ≡ len
     length-new = ap length y ∙ length-recorded L v (part a len f) ∙ length-block
 
@@ -49,6 +50,7 @@ module _ (a len b w L : ℕ) (f : List ℕ) (g : Apart a len b w f) where
     put-block : putMid a len f ys ≡ spliced a (recorded L v (part a len f)) f
     put-block = spliced-put a len ys f length-new ∙ ap (λ (r : List ℕ). spliced a r f) y
 
+    -- the index block lies in that sheet
     length-index : length (part b w (putMid a len f ys)) ≡ w
     length-index =
         let k : length (putMid a len f ys) ≡ length f = ap length (spliced-put a len ys f length-new) ∙ length-spliced a ys f (omega (arith, length-new, g .ordered, g .inside)) in

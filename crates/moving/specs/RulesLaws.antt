@@ -30,6 +30,7 @@ parity-all s m d h =
     omega (arith, ap (λ (x : ℕ). m * x) q)
 
 module _ (s m L w d : ℕ) (vs f : List ℕ) (h : d < s - 1) where
+  -- the parity blocks are cut from the m blocks' own cells
   own-blocks : chop (parityLength d) (parityCount s m d) (take (m * 2 ^ s) f) ≡ chop (parityLength d) (parityCount s m d) f
   own-blocks = chop-take (parityLength d) (parityCount s m d) (m * 2 ^ s) f (omega (arith, parity-all s m d h))
 

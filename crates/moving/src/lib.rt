@@ -2,7 +2,7 @@
 ghost use mathlib.Core.List.{[], _∷_};
 ghost use mathlib.Core.Logic.{_≢_};
 ghost use mathlib.Core.Path.{_≡_};
-ghost use Prim.Native.Nat.{suc, _+_, _*_, _^_, _≤_, _<_};
+ghost use Prim.Native.Nat.{suc, _+_, _-_, _*_, _^_, _≤_, _<_};
 ghost use native.Mathlib.Decide.{ℕ-discrete};
 ghost use lib.ListN.{length, take, drop, replicate};
 ghost use Rattle.laws.specs.Splice.{part, spliced};
@@ -101,6 +101,16 @@ fn record_live(
     record_value(sheet, a, len, b, w, top, live + 1, values[live])
 }
 
+// The rest of the batch, up to its end, set to the top level. The answer is the sum of the whole batch, which begins at cell `at`.
+fn fill_rest(sheet: &mut [u8], at: usize, rest: usize, end: usize, top: u8) -> usize
+    requires { ⌜ (at ≤ rest) × (rest ≤ end) × (end ≤ length (now sheet)) × (length (now sheet) ≤ 65536) ⌝ }
+    ensures { λ _. ⌜ now (sheet .exit) ≡ spliced rest (replicate (end - rest) top) (now (sheet .entry)) ⌝ }
+    ensures { λ r. ⌜ (r ≡ sum (part at (end - at) (now (sheet .exit)))) × (r ≤ 65536 * 255) ⌝ }
+{
+    fill(&mut sheet[rest..end], top);
+    sum_of(&sheet[at..end])
+}
+
 // The move: the first k live parity blocks record the values, and the stage's index blocks are set. The answer is the levels raised in all.
 pub fn move_to(
     sheet: &mut [u8],
@@ -132,6 +142,5 @@ pub fn move_to(
     }
     let rest = at + live * w;
     let end = at + 2 * (k - 1) * w;
-    fill(&mut sheet[rest..end], top);
-    raised + sum_of(&sheet[at..end])
+    raised + fill_rest(sheet, at, rest, end, top)
 }

@@ -3,3 +3,6 @@ pub mod Meaning
 pub mod Laws
 pub mod LayoutLaws
 pub mod MoveLaws
+pub mod StageLaws
+pub mod ZeroLaws
+pub mod ScanLaws

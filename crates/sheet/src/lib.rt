@@ -1,5 +1,6 @@
 // The library: erase, read and change a sheet of accepted settings. Every call answers for any settings, levels and bit. Assumes nothing.
 mod kind0;
+mod kind1;
 mod layout;
 
 use rules::Answer;

@@ -2,3 +2,5 @@
 pub mod Meaning
 pub mod LiveLaws
 pub mod Laws
+pub mod TurnLaws
+pub mod PlaceLaws

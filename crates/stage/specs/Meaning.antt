@@ -65,7 +65,7 @@ pub record FirstAt (u : ℕ) (ts : List ℕ) (t : ℕ) : Type 0 where
   pub earlier : (x : ℕ) → x < t → ¬ (getD ts x 0 ≡ u)
 
 -- the block that number u has: the parity block and the index block of the first rank where u stands, and the weight;
--- where u stands nowhere, the parity block's number is none
+-- where u stands nowhere, the parity block's number is none, and the rest is 0
 pub data Home (W none u : ℕ) (bs : List (List ℕ)) (es : List Entry) (place slot weight : ℕ) : Type 0 where
   has : (t : ℕ) → FirstAt u (indexes es) t → place ≡ liveBlock W t bs → slot ≡ openEntry t es → weight ≡ getD (liveWeights W bs) t 0 → Home W none u bs es place slot weight
   hasNot : Absent u (indexes es) → place ≡ none → slot ≡ 0 → weight ≡ 0 → Home W none u bs es place slot weight
@@ -89,14 +89,29 @@ begun none = record { sound = true; places = replicate 64 none; slots = replicat
 abbrev pub broken : StageScan
 broken = record { sound = false; places = replicate 64 0; slots = replicate 64 0; weights = replicate 64 0; free = 0; «free_slot» = 0; «free_weight» = 0 }
 
--- a turn that meets a parity block and an index block that aren't full: j are passed before it, and x
-pub record Turn (k W none len : ℕ) (cells : List ℕ) (L w : ℕ) (batch : List ℕ) (q j x u v : ℕ) (s : StageScan) : Type 0 where
+-- a scan with its first free block: parity block j of weight v, with index block x
+abbrev pub withFree : StageScan → ℕ → ℕ → ℕ → StageScan
+withFree s j x v = record { sound = s .sound; places = s .places; slots = s .slots; weights = s .weights; free = j; «free_slot» = x; «free_weight» = v }
+
+-- a scan once its parity blocks are passed: no index block that isn't full may be left
+abbrev pub endedBy : StageScan → Live → StageScan
+endedBy s (At x u) = broken
+endedBy s Nowhere = s
+
+-- where a scan stands that has found nothing wrong: the first j of none parity blocks and the first x of q index blocks are passed
+pub record ScanAt (k W none len : ℕ) (cells : List ℕ) (L w : ℕ) (batch : List ℕ) (q j x : ℕ) (s : StageScan) : Type 0 where
   pub few : k ≤ 64
+  pub in-cells : j ≤ none
+  pub in-batch : x ≤ q
   pub passed : Passed k W none (chop len j cells) (entries L w x batch) s
-  pub before : j < none
+
+-- a turn of the scan that has met parity block j, of weight v and not full, and index block x, of number u
+pub record Turn (k W none len : ℕ) (cells : List ℕ) (L w : ℕ) (batch : List ℕ) (q j x u v : ℕ) (s : StageScan) : Type 0 where
+  pub here : ScanAt k W none len cells L w batch q j x s
+  pub a-block : j < none
+  pub an-index : x < q
   pub weight : v ≡ sum (block len cells j)
   pub live : v ≢ W
-  pub inside : x < q
   pub entry : entryAt L w batch x ≡ index u
 
 -- what the scan of a stage asks: count parity blocks of len cells, and 2(k - 1) index blocks of w cells
@@ -122,3 +137,32 @@ unfoldable pub placeIn : StageScan → ℕ → ℕ → StagePlace
 placeIn s bit count =
     pick (decLt (getD (s .places) bit 0) count) (Own (getD (s .places) bit 0) (getD (s .slots) bit 0) (getD (s .weights) bit 0))
     (pick (decLt (s .free) count) (Free (s .free) (s .«free_slot») (s .«free_weight»)) Beyond)
+
+-- a change of bit i that stays in the stage, at parity block j of weight v with index block x: the blocks and entries after it, and the cells of both
+pub record Stays (len count w q L i : ℕ) (cells batch : List ℕ) (j x v : ℕ) (bs : List (List ℕ)) (es : List Entry) (after indexed : List ℕ) : Type 0 where
+  pub in-cells : j < count
+  pub in-batch : x < q
+  pub weight : v ≡ sum (block len cells j)
+  pub live : v ≢ len * L
+  pub stays : changeWithin (len * L) L i (chop len count cells) (entries L w q batch) ≡ stay bs es
+  pub cells-after : join bs ≡ after
+  pub batch-after : join (map (entryCells L w) es) ≡ indexed
+
+-- what a place means for the change of bit i: its own block is raised, and its index block to full if that fills it;
+-- the first free block takes the bit, raised only if its weight is even; or the change goes on to a later stage, and fewer than k blocks aren't full
+pub data PlaceWithin (len count w k L i : ℕ) (cells batch : List ℕ) : StagePlace → Type 0 where
+  at-own : (j x v : ℕ) → Stays len count w (2 * (k - 1)) L i cells batch j x v
+      (set (chop len count cells) j (raise L (block len cells j)))
+      (pick (ℕ-discrete (suc v) (len * L)) (set (entries L w (2 * (k - 1)) batch) x closed) (entries L w (2 * (k - 1)) batch))
+      (store len (take (count * len) cells) j (raise L (block len cells j)))
+      (pick (ℕ-discrete (suc v) (len * L)) (store w (take (2 * (k - 1) * w) batch) x (replicate w L)) (take (2 * (k - 1) * w) batch))
+      → PlaceWithin len count w k L i cells batch (Own j x v)
+  at-free : (j x v : ℕ) → Stays len count w (2 * (k - 1)) L i cells batch j x v
+      (pick (ℕ-discrete (v % 2) 0) (set (chop len count cells) j (raise L (block len cells j))) (chop len count cells))
+      (set (entries L w (2 * (k - 1)) batch) x (index (suc i)))
+      (pick (ℕ-discrete (v % 2) 0) (store len (take (count * len) cells) j (raise L (block len cells j))) (take (count * len) cells))
+      (store w (take (2 * (k - 1) * w) batch) x (digits (suc L) w (suc i)))
+      → PlaceWithin len count w k L i cells batch (Free j x v)
+  at-none : changeWithin (len * L) L i (chop len count cells) (entries L w (2 * (k - 1)) batch) ≡ beyond
+      → length (liveWeights (len * L) (chop len count cells)) < k
+      → PlaceWithin len count w k L i cells batch Beyond

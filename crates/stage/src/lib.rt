@@ -1,10 +1,10 @@
 // One stage from 1 up: its check, every bit's block and the place of a change, in one pass over its parity blocks. Assumes nothing.
 use staged::Index;
 ghost use mathlib.Core.Path.{_≡_};
-ghost use Prim.Native.Nat.{suc, _+_, _-_, _*_, _^_, _≤_, _<_};
+ghost use Prim.Native.Nat.{_+_, _-_, _*_, _≤_, _<_};
 ghost use lib.ListN.{length};
 ghost use Rattle.rules.specs.Cells.{sum, block, chop};
-ghost use Rattle.stage.specs.Meaning.{entries, BatchFits, NextIndex, StageFits, StageScanned, begun, broken, placeIn};
+ghost use Rattle.stage.specs.Meaning.{entries, BatchFits, NextIndex, StageFits, StageScanned, begun, broken, endedBy, placeIn, withFree};
 
 // The next index block that isn't full, and its number.
 pub enum Live {
@@ -88,6 +88,27 @@ fn unsound() -> StageScan
     }
 }
 
+// A scan with its first free block.
+fn with_free(s: StageScan, j: usize, slot: usize, v: usize) -> StageScan
+    ensures { λ r. ⌜ r ≡ withFree s j slot v ⌝ }
+{
+    let mut r = s;
+    r.free = j;
+    r.free_slot = slot;
+    r.free_weight = v;
+    r
+}
+
+// A scan once its parity blocks are passed: no index block that isn't full may be left.
+fn ended(s: StageScan, left: Live) -> StageScan
+    ensures { λ r. ⌜ r ≡ endedBy s left ⌝ }
+{
+    match left {
+        Live::At(_, _) => unsound(),
+        Live::Nowhere => s,
+    }
+}
+
 // The check of a stage and every bit's block: the j-th parity block that isn't full belongs to the j-th index block that isn't full.
 pub fn scan_stage(
     cells: &[u8],
@@ -112,29 +133,21 @@ pub fn scan_stage(
             return unsound();
         };
         next = slot + 1;
-        if k < u {
-            return unsound();
-        }
         if u == 0 {
             if s.free == count {
-                s.free = j;
-                s.free_slot = slot;
-                s.free_weight = v;
+                s = with_free(s, j, slot, v);
             }
             continue;
         }
         let bit = u - 1;
-        if s.places[bit] < count {
+        if k < u || s.places[bit] < count {
             return unsound();
         }
         s.places[bit] = j;
         s.slots[bit] = slot;
         s.weights[bit] = v;
     }
-    if let Live::At(_, _) = next_index(batch, w, 2 * (k - 1), top, next) {
-        return unsound();
-    }
-    s
+    ended(s, next_index(batch, w, 2 * (k - 1), top, next))
 }
 
 // The place of a change of a bit within the stage; count stands for none.

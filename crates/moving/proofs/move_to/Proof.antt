@@ -1,24 +1,18 @@
 -- `moving::move_to` meets its contract: block after block the sheet is the one that the rules make of the blocks met. Assumes nothing.
 use mathlib.Core.Logic.{_≢_}
-use mathlib.Core.Path.{_≡_, _∙_, ap, sym}
-use Prim.Native.Nat.{ℕ, _+_, _-_, _*_, _≤_}
+use mathlib.Core.Path.{_≡_, _∙_, sym}
+use Prim.Native.Nat.{_+_, _-_, _*_, _≤_}
 use native.Mathlib.Omega.{arith}
-use borrow.Rule.Slice.PartMut.{putMid}
-use lib.ListN.{getD, length, take, length-drop, length-take}
+use lib.ListN.{length, take, length-drop, length-take}
 use Rattle.laws.specs.Splice.{part}
 use Rattle.rules.specs.Cells.{sum}
 use Rattle.moving.specs.Meaning.{Going}
-use Rattle.moving.specs.GoingLaws.{block-inside, going-first, going-full, going-live, index-blank, index-room, live-asks, met-few, next-few, rest-room, same-long}
-use Rattle.moving.specs.EndLaws.{all-met, bytes-small, length-filled, move-done, move-sum}
+use Rattle.moving.specs.GoingLaws.{block-inside, going-first, going-full, going-live, index-blank, index-room, live-asks, met-few, rest-room, same-long}
+use Rattle.moving.specs.EndLaws.{all-met, move-done, move-sum}
 use Rattle.moving.specs.RecordLaws.{full-small}
 use borrow.Author.Needs.{needs}
 use Rattle.moving.proofs.move_to.Statement.{statement}
 use Rattle.moving.proofs.move_to.Tie as tie
-use Rattle.moving.proofs.move_to.Reads as reads
-use Rattle.moving.proofs.move_to.Lts as lts
-use Rattle.block.proofs.sum_of.Reads as sum-of-reads
-use Rattle.moving.proofs.record_live.Reads as record-live-reads
-use Rattle.staged.proofs.fill.Reads as fill-reads
 
 abbrev Inv-loop : tie.InvT-loop
 Inv-loop sheet₀ at len count w k top values full raised₀ live₀ j₀ sheet raised live j = Going at len count w top (take k values) sheet₀ sheet raised live j
@@ -137,68 +131,34 @@ mul-end-2 c = omega (arith, c .before .before .before .pre .inside)
 add-end : tie.Need-add-end Inv-loop μ-loop
 add-end c = omega (arith, c .before .before .before .pre .inside)
 
-sub-fill : tie.Need-sub-fill Inv-loop μ-loop
-sub-fill c = omega (arith, rest-room (c .before .before .before .pre) (c .before .loop .inv))
-
-part-fill-start : tie.Need-part-fill-start Inv-loop μ-loop
-part-fill-start c = omega (arith, rest-room (c .before .before .before .pre) (c .before .loop .inv))
-
-part-fill-end : tie.Need-part-fill-end Inv-loop μ-loop
-part-fill-end c = omega (arith, same-long (c .before .before .before .pre) (c .before .loop .inv))
-
-fill-requires : tie.Need-fill-requires Inv-loop μ-loop
-fill-requires c κs = search needs
-
-sub-sum-of-2 : tie.Need-sub-sum-of-2 Inv-loop μ-loop
-sub-sum-of-2 c = search needs
-
-part-sum-of-start-2 : tie.Need-part-sum-of-start-2 Inv-loop μ-loop
-part-sum-of-start-2 c = search needs
-
-part-sum-of-end-2 : tie.Need-part-sum-of-end-2 Inv-loop μ-loop
-part-sum-of-end-2 c =
-    let o = c .before .before .before .before .before .before in
-    let a = o .before .before .args in
-    let g = o .before .before .pre in
-    let i = all-met (o .loop .inv) (c .before .before .before .before .before .loop-test .left) in
-    let q : a .at + 2 * (a .k - 1) * a .w - (a .at + o .loop .live * a .w) + o .loop .live * a .w ≡ 2 * (a .k - 1) * a .w = omega (arith, rest-room g i) in
-    let y = c .before .before .before .fill in
-    omega (arith, g .inside, length-filled (a .at) (a .len) (a .count) (a .w) (a .k) (a .top) (take (a .k) (a .values)) (a .sheet .now) g i _ q (y .last .0) (y .ensures))
-
-sum-of-requires-2 : tie.Need-sum-of-requires-2 Inv-loop μ-loop
-sum-of-requires-2 c κs = search needs
+fill-rest-requires : tie.Need-fill-rest-requires Inv-loop μ-loop
+fill-rest-requires c κs =
+    let g = c .before .before .before .before .pre in
+    let i = c .before .before .loop .inv in
+    (omega arith, omega (arith, rest-room g i), omega (arith, same-long g i), omega (arith, same-long g i))
 
 add-result : tie.Need-add-result Inv-loop μ-loop
 add-result c =
-    let o = c .before .before .before .before .before .before .before .before in
-    let a = o .before .before .args in
+    let o = c .before .before .before .before .before in
     let g = o .before .before .pre in
-    let n : a .at + 2 * (a .k - 1) * a .w - a .at ≤ 65536 = omega (arith, g .inside, g .short) in
-    let f = putMid (a .at + o .loop .live * a .w) (a .at + 2 * (a .k - 1) * a .w - (a .at + o .loop .live * a .w)) (o .loop .sheet) (c .before .before .before .before .before .fill .last .0) in
-    let h : (x : ℕ) → getD f x 0 ≤ 255 = λ x. omega (arith, c .before .before .before .slice-known3 .given x) in
-    omega (arith, g .few, o .loop .inv .each, met-few g (o .loop .inv), bytes-small (a .at) (a .at + 2 * (a .k - 1) * a .w - a .at) f h n, c .sum-of2 .ensures)
+    omega (arith, g .few, o .loop .inv .each, met-few g (o .loop .inv), c .before .before .fill-rest .ensures .1 .1)
 
 same-length : tie.Need-same-length Inv-loop μ-loop
 same-length c =
-    let o = c .before .before .before .before .before .before .before .before in
-    let a = o .before .before .args in
-    let g = o .before .before .pre in
-    let i = all-met (o .loop .inv) (c .before .before .before .before .before .before .before .loop-test .left) in
-    let q : a .at + 2 * (a .k - 1) * a .w - (a .at + o .loop .live * a .w) + o .loop .live * a .w ≡ 2 * (a .k - 1) * a .w = omega (arith, rest-room g i) in
-    let y = c .before .before .before .before .before .fill in
-    length-filled (a .at) (a .len) (a .count) (a .w) (a .k) (a .top) (take (a .k) (a .values)) (a .sheet .now) g i _ q (y .last .0) (y .ensures)
+    let o = c .before .before .before .before .before in
+    omega (arith, same-long (o .before .before .pre) (o .loop .inv))
 
 returns : tie.Need-returns Inv-loop μ-loop
 returns c =
-    let o = c .before .before .before .before .before .before .before .before in
+    let o = c .before .before .before .before .before in
     let a = o .before .before .args in
     let g = o .before .before .pre in
-    let i = all-met (o .loop .inv) (c .before .before .before .before .before .before .before .loop-test .left) in
-    let q : a .at + 2 * (a .k - 1) * a .w - (a .at + o .loop .live * a .w) + o .loop .live * a .w ≡ 2 * (a .k - 1) * a .w = omega (arith, rest-room g i) in
-    let y = c .before .before .before .before .before .fill in
-    let p : a .at + 2 * (a .k - 1) * a .w - a .at ≡ 2 * (a .k - 1) * a .w = omega arith in (
-      move-done (a .at) (a .len) (a .count) (a .w) (a .k) (a .top) (take (a .k) (a .values)) (a .sheet .now) g i _ q (y .last .0) (y .ensures),
-      move-sum (a .at) (a .len) (a .count) (a .w) (a .k) (a .top) (take (a .k) (a .values)) (a .sheet .now) g i _ q (y .last .0) (y .ensures) (c .sum-of2 .result) (rw p at (c .sum-of2 .ensures)),
+    let i = all-met (o .loop .inv) (c .before .before .before .before .loop-test .left) in
+    let r = c .before .before .fill-rest in
+    let n : a .at + 2 * (a .k - 1) * a .w - (a .at + o .loop .live * a .w) + o .loop .live * a .w ≡ 2 * (a .k - 1) * a .w = omega (arith, rest-room g i) in
+    let q : a .at + 2 * (a .k - 1) * a .w - a .at ≡ 2 * (a .k - 1) * a .w = omega arith in (
+      move-done (a .at) (a .len) (a .count) (a .w) (a .k) (a .top) (take (a .k) (a .values)) (a .sheet .now) g i _ n (r .last .0) (r .ensures .0),
+      move-sum (a .at) (a .len) (a .count) (a .w) (a .k) (a .top) (take (a .k) (a .values)) (a .sheet .now) g i _ n (r .last .0) (r .ensures .0) (r .result) (rw q at (r .ensures .1 .0)),
     )
 
 pub move-to-spec : {M : Type 1} → statement M
@@ -231,14 +191,7 @@ move-to-spec =
     mul-end
     mul-end-2
     add-end
-    sub-fill
-    part-fill-start
-    part-fill-end
-    fill-requires
-    sub-sum-of-2
-    part-sum-of-start-2
-    part-sum-of-end-2
-    sum-of-requires-2
+    fill-rest-requires
     add-result
     same-length
     returns)

@@ -1,5 +1,5 @@
 -- `moving::raise_one` meets its contract: the cells passed are at the top level. Assumes nothing.
-use Prim.Native.Nat.{ℕ, _≤_, _<_, _-_, _+_, suc}
+use Prim.Native.Nat.{ℕ, _≤_, _<_, _-_}
 use mathlib.Core.Path.{_≡_, refl, sym, ap, _∙_}
 use native.Mathlib.Numerals.{add-one}
 use native.Mathlib.Omega.{arith}
@@ -10,8 +10,6 @@ use Rattle.laws.specs.Stage.{raise-here, raise-none}
 use Rattle.rules.specs.Stage.{raise}
 use Rattle.moving.proofs.raise_one.Statement.{statement}
 use Rattle.moving.proofs.raise_one.Tie as tie
-use Rattle.moving.proofs.raise_one.Reads as reads
-use Rattle.moving.proofs.raise_one.Lts as lts
 
 abbrev Inv-loop : tie.InvT-loop
 Inv-loop b₀ top i₀ b i = (i ≤ length b) × (b ≡ b₀) × (length b ≡ length b₀) × ((j : ℕ) → j < i → top ≤ getD b j 0)

@@ -1,5 +1,4 @@
 -- `moving::record_live` meets its contract: with no value left nothing moves, else the next value is recorded. Assumes nothing.
-use mathlib.Core.Path.{_∙_}
 use Prim.Native.Nat.{_≤_, _<_}
 use native.Mathlib.Omega.{arith}
 use lib.ListN.{length}
@@ -7,9 +6,6 @@ use Rattle.moving.specs.MoveLaws.{free-block, free-sum, next-block, next
 use borrow.Author.Needs.{needs}
 use Rattle.moving.proofs.record_live.Statement.{statement}
 use Rattle.moving.proofs.record_live.Tie as tie
-use Rattle.moving.proofs.record_live.Reads as reads
-use Rattle.moving.proofs.record_live.Lts as lts
-use Rattle.moving.proofs.record_value.Reads as record-value-reads
 
 -- src/lib.rt:89:9
 returns : tie.Need-returns
@@ -49,7 +45,7 @@ returns-2 c =
     let h : a .live < a .k = omega arith in
     let l : a .k ≤ length (a .t9) = omega arith in (
       next-block (a .a) (a .len) (a .b) (a .w) (a .top) (a .live) (a .k) (a .t9) (a .sheet .now) (o .pre .0 .2) h l (r .last .0) _ (r .ensures .0) (omega arith),
-      r .ensures .1 ∙ next-sum (a .a) (a .len) (a .b) (a .w) (a .top) (a .live) (a .k) (a .t9) (a .sheet .now) (o .pre .0 .2) h l,
+      next-sum (a .a) (a .len) (a .b) (a .w) (a .top) (a .live) (a .k) (a .t9) (a .sheet .now) (o .pre .0 .2) h l _ (r .ensures .1),
     )
 
 pub record-live-spec : {M : Type 1} → statement M

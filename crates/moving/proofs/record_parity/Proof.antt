@@ -10,9 +10,6 @@ use Rattle.rules.specs.Cells.{sum}
 use Rattle.moving.specs.Laws.{recorded-other, recorded-same}
 use Rattle.moving.proofs.record_parity.Statement.{statement}
 use Rattle.moving.proofs.record_parity.Tie as tie
-use Rattle.moving.proofs.record_parity.Reads as reads
-use Rattle.moving.proofs.record_parity.Lts as lts
-use Rattle.moving.proofs.raise_one.Reads as raise-one-reads
 
 -- src/lib.rt:38:9
 returns : tie.Need-returns

@@ -9,11 +9,6 @@ use Rattle.rules.specs.Stage.{recorded}
 use Rattle.moving.specs.RecordLaws.{after-small, block-asks, full-small, index-asks, record-back}
 use Rattle.moving.proofs.record_value.Statement.{statement}
 use Rattle.moving.proofs.record_value.Tie as tie
-use Rattle.moving.proofs.record_value.Reads as reads
-use Rattle.moving.proofs.record_value.Lts as lts
-use Rattle.block.proofs.sum_of.Reads as sum-of-reads
-use Rattle.moving.proofs.record_parity.Reads as record-parity-reads
-use Rattle.moving.proofs.write_index.Reads as write-index-reads
 
 -- src/lib.rt:62:13
 add-e : tie.Need-add-e

@@ -8,10 +8,6 @@ use Rattle.rules.specs.SearchLaws.{pick-no, pick-yes}
 use Rattle.rules.specs.Stage.{closed, index}
 use Rattle.moving.proofs.write_index.Statement.{statement}
 use Rattle.moving.proofs.write_index.Tie as tie
-use Rattle.moving.proofs.write_index.Reads as reads
-use Rattle.moving.proofs.write_index.Lts as lts
-use Rattle.staged.proofs.fill.Reads as fill-reads
-use Rattle.staged.proofs.set_index.Reads as set-index-reads
 
 -- src/lib.rt:50:9
 fill-requires : tie.Need-fill-requires

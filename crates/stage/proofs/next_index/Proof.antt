@@ -9,9 +9,6 @@ use Rattle.staged.specs.Meaning.{asEntry}
 use borrow.Author.Needs.{needs}
 use Rattle.stage.proofs.next_index.Statement.{statement}
 use Rattle.stage.proofs.next_index.Tie as tie
-use Rattle.stage.proofs.next_index.Reads as reads
-use Rattle.stage.proofs.next_index.Lts as lts
-use Rattle.staged.proofs.index_of.Reads as index-of-reads
 
 abbrev Inv-loop : tie.InvT-loop
 Inv-loop batch w q top from x₀ x = (from ≤ x) × ClosedFrom top w batch from x
@@ -19,7 +16,6 @@ Inv-loop batch w q top from x₀ x = (from ≤ x) × ClosedFrom top w batch from
 abbrev μ-loop : tie.MeasureT-loop
 μ-loop batch w q top from x₀ x = q - x
 
--- src/lib.rt:40:5
 loop-holds : tie.Need-loop-holds Inv-loop μ-loop
 loop-holds c = (omega arith, closed-none (c .before .args .top) (c .before .args .w) (c .before .args .batch .now) (c .before .args .from))
 
@@ -29,27 +25,21 @@ inside c =
     let a = c .before .before .before .args in
     omega (arith, block-inside (a .w) (c .before .loop .x) (a .q) (c .loop-test .taken))
 
--- src/lib.rt:41:17
 mul-a : tie.Need-mul-a Inv-loop μ-loop
 mul-a c = omega (arith, inside c)
 
--- src/lib.rt:42:17
 add-e : tie.Need-add-e Inv-loop μ-loop
 add-e c = omega (arith, inside c)
 
--- src/lib.rt:43:52
 sub-index-of : tie.Need-sub-index-of Inv-loop μ-loop
 sub-index-of c = search needs
 
--- src/lib.rt:43:52
 part-index-of-start : tie.Need-part-index-of-start Inv-loop μ-loop
 part-index-of-start c = search needs
 
--- src/lib.rt:43:52
 part-index-of-end : tie.Need-part-index-of-end Inv-loop μ-loop
 part-index-of-end c = omega (arith, inside c)
 
--- src/lib.rt:43:35
 index-of-requires : tie.Need-index-of-requires Inv-loop μ-loop
 index-of-requires c κs =
     let l = c .before .before in
@@ -63,11 +53,9 @@ said c =
     let o = l .before .before in
     c .index-of .ensures ∙ index-said (o .args .w) (o .args .q) (o .args .top) (l .loop .x) (o .args .batch .now) (o .pre) (c .before .before .loop-test .taken)
 
--- src/lib.rt:43:30
 enum-known-u : tie.Need-enum-known-u Inv-loop μ-loop
 enum-known-u c = search needs
 
--- src/lib.rt:44:13
 returns : tie.Need-returns Inv-loop μ-loop
 returns c =
     let r = c .before .before .before in
@@ -77,15 +65,12 @@ returns c =
 enum-told : tie.Need-enum-told Inv-loop μ-loop
 enum-told c = search needs
 
--- src/lib.rt:46:9
 add-x : tie.Need-add-x Inv-loop μ-loop
 add-x c = search needs
 
--- src/lib.rt:40:5
 loop-less : tie.Need-loop-less Inv-loop μ-loop
 loop-less c = search needs
 
--- src/lib.rt:40:5
 loop-again : tie.Need-loop-again Inv-loop μ-loop
 loop-again c =
     let r = c .before .before in
@@ -93,7 +78,6 @@ loop-again c =
     let a = l .before .before .args in
     (omega arith, closed-more (a .top) (a .w) (a .batch .now) (a .from) (l .loop .x) (l .loop .inv .1) (sym (said r) ∙ ap asEntry (c .enum-told .given .1)))
 
--- src/lib.rt:35:1
 returns-2 : tie.Need-returns-2 Inv-loop μ-loop
 returns-2 c =
     let l = c .before in

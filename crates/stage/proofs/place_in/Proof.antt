@@ -7,44 +7,33 @@ use Rattle.rules.specs.SearchLaws.{pick-no, pick-yes}
 use Rattle.stage.specs.Meaning.{placeIn}
 use Rattle.stage.proofs.place_in.Statement.{statement}
 use Rattle.stage.proofs.place_in.Tie as tie
-use Rattle.stage.proofs.place_in.Reads as reads
-use Rattle.stage.proofs.place_in.Lts as lts
 
--- src/lib.rt:137:17
 mul-place : tie.Need-mul-place
 mul-place c = search needs
 
--- src/lib.rt:137:17
 element-copy-out-place : tie.Need-element-copy-out-place
 element-copy-out-place c = search needs
 
--- src/lib.rt:139:39
 mul-t11 : tie.Need-mul-t11
 mul-t11 c = search needs
 
--- src/lib.rt:139:39
 element-copy-out-t14 : tie.Need-element-copy-out-t14
 element-copy-out-t14 c = search needs
 
--- src/lib.rt:139:53
 mul-t15 : tie.Need-mul-t15
 mul-t15 c = search needs
 
--- src/lib.rt:139:53
 element-copy-out-t18 : tie.Need-element-copy-out-t18
 element-copy-out-t18 c = search needs
 
--- src/lib.rt:139:9
 returns : tie.Need-returns
 unfolding placeIn
 returns c = sym (pick-yes (decLt _ _) _ _ (c .before .before .if1 .taken))
 
--- src/lib.rt:142:9
 returns-2 : tie.Need-returns-2
 unfolding placeIn
 returns-2 c = sym (pick-no (decLt _ _) _ _ (λ l. omega arith) ∙ pick-yes (decLt _ _) _ _ (c .if2 .taken))
 
--- src/lib.rt:133:1
 returns-3 : tie.Need-returns-3
 unfolding placeIn
 returns-3 c = sym (pick-no (decLt _ _) _ _ (λ l. omega arith) ∙ pick-no (decLt _ _) _ _ (λ l. omega arith))

@@ -5,35 +5,25 @@ use Rattle.stage.specs.Laws.{part-is-block}
 use borrow.Author.Needs.{needs}
 use Rattle.stage.proofs.weight_of.Statement.{statement}
 use Rattle.stage.proofs.weight_of.Tie as tie
-use Rattle.stage.proofs.weight_of.Reads as reads
-use Rattle.stage.proofs.weight_of.Lts as lts
-use Rattle.block.proofs.sum_of.Reads as sum-of-reads
 
--- src/lib.rt:56:13
 mul-a : tie.Need-mul-a
 mul-a c = search needs
 
--- src/lib.rt:57:13
 add-e : tie.Need-add-e
 add-e c = search needs
 
--- src/lib.rt:58:19
 sub-sum-of : tie.Need-sub-sum-of
 sub-sum-of c = search needs
 
--- src/lib.rt:58:19
 part-sum-of-start : tie.Need-part-sum-of-start
 part-sum-of-start c = search needs
 
--- src/lib.rt:58:19
 part-sum-of-end : tie.Need-part-sum-of-end
 part-sum-of-end c = search needs
 
--- src/lib.rt:58:5
 sum-of-requires : tie.Need-sum-of-requires
 sum-of-requires c κs = search needs
 
--- src/lib.rt:52:1
 returns : tie.Need-returns
 returns c =
     let a = c .before .before .before .args in

@@ -1,0 +1,57 @@
+-- The move is the rules' move.
+use mathlib.Core.Path.{sym, ap, _∙_}
+use mathlib.Core.List.{List}
+use Prim.Native.Nat.{ℕ}
+use native.Mathlib.Omega.{arith}
+use Rattle.rules.specs.AcceptLaws.{staged-bits}
+use Rattle.moving.specs.RulesLaws.{move-is}
+use Rattle.sheet.specs.MoveLaws.{move-roomy, moved-rules}
+use borrow.Author.Needs.{needs}
+use Rattle.sheet.proofs.kind1.make_move.Statement.{statement}
+use Rattle.sheet.proofs.kind1.make_move.Tie as tie
+
+values-after-requires : tie.Need-values-after-requires
+values-after-requires c κs = omega (arith, staged-bits _ (c .before .pre .0) .1)
+
+batch-at-requires : tie.Need-batch-at-requires
+batch-at-requires c κs = search needs
+
+parity-length-requires : tie.Need-parity-length-requires
+parity-length-requires c κs = search needs
+
+parity-count-requires : tie.Need-parity-count-requires
+parity-count-requires c κs = search needs
+
+cast-move-to : tie.Need-cast-move-to
+cast-move-to c = search needs
+
+move-to-requires : tie.Need-move-to-requires
+move-to-requires c κs =
+    let n = c .before .before in
+    let a = n .before .before in
+    let o = a .before .before .before in
+    move-roomy _ (o .pre .0) _ (o .pre .1) _ _ _ _ (o .pre .2) (a .batch-at .ensures) (n .before .parity-length .ensures) (n .parity-count .ensures)
+
+same-length : tie.Need-same-length
+same-length c = search needs
+
+returns : tie.Need-returns
+returns c =
+    let t = c .before .before in
+    let n = t .before .before .before in
+    let a = n .before .before in
+    let o = a .before .before .before in
+    (t .move-to .ensures .0 ∙ moved-rules (o .args .settings) (o .pre .0) (o .args .sheet .now) (o .pre .1) _ _ _ _ _ _ (o .pre .2 .stage) (a .batch-at .ensures) (n .before .parity-length .ensures) (n .parity-count .ensures) (a .before .values-after .ensures), t .move-to .ensures .1)
+
+pub make-move-spec : {M : Type 1} → statement M
+make-move-spec =
+    tie.close
+    (tie.spec
+    values-after-requires
+    batch-at-requires
+    parity-length-requires
+    parity-count-requires
+    cast-move-to
+    move-to-requires
+    same-length
+    returns)

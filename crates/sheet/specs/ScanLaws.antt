@@ -1,0 +1,113 @@
+-- Laws of a staged sheet at a stage from 1 up, as its parts are lent to the scan. Assumes nothing.
+use mathlib.Core.Path.{_≡_, refl, sym, ap, ap₂, _∙_, subst, subst₂}
+use mathlib.Core.Bool.{true, false}
+use mathlib.Core.List.{List, map}
+use Prim.Native.Nat.{ℕ, zero, suc, _+_, _-_, _*_, _%_, _^_, _≤_, _<_}
+use native.Mathlib.Nat.{pow-suc, pow-zero, mul-le-mul, not-suc-le-zero, le-refl}
+use native.Mathlib.Omega.{arith}
+use lib.ListN.{length, getD, take, drop, length-drop}
+use lib.Pow.{pow-pos}
+use lib.Seq.{length-take-le}
+use Rattle.rules.specs.Search.{at}
+use Rattle.rules.specs.Cells.{Low, chop}
+use Rattle.rules.specs.Stage.{Entry, StageOk}
+use Rattle.rules.specs.Staged.{parityLength, parityCount, parityBlocks, indexBlocks}
+use Rattle.rules.specs.Staged as S
+use Rattle.rules.specs.Batches.{batchCells, batch, entryOf}
+use Rattle.rules.specs.AcceptLaws.{StagedFacts, staged-bits}
+use Rattle.rules.specs.Calls.{Sound, readBit}
+use Rattle.rules.specs.declared.Settings.{Settings}
+use Rattle.laws.specs.Lists.{low-take, low-drop}
+use Rattle.stage.specs.Meaning.{entries, BatchFits, StageFits, StageScanned}
+use Rattle.stage.specs.PlaceLaws.{stage-read}
+use Rattle.stage.specs.declared.StageScan.{StageScan}
+use Rattle.sheet.specs.Meaning.{Levelled, BitsOf}
+use Rattle.sheet.specs.LayoutLaws.{cells-most, batch-are, batch-inside, parity-cells, length-most}
+use Rattle.sheet.specs.StageLaws.{AtStage, stage-sound, sound-stage, read-stage, batch-part}
+use Rattle.sheet.specs.ZeroLaws.{cells-in}
+use Rattle.sheet.specs.declared.Bits.{Bits}
+
+-- the m blocks, and what the index blocks of the stage with d left say
+abbrev pub mBlocks : Settings → List ℕ → List ℕ
+mBlocks r f = take (r .m * 2 ^ r .s) f
+
+abbrev pub stageBatch : Settings → List ℕ → ℕ → List ℕ
+stageBatch r f d = batch (r .s) (r .m) (r .w) f d
+
+-- a scan of the stage with d left
+abbrev pub ScannedAt : Settings → List ℕ → ℕ → StageScan → Type 0
+ScannedAt r f d s = StageScanned (2 ^ r .s) (parityLength d * r .top) (parityBlocks (r .s) (r .m) d (mBlocks r f)) (entries (r .top) (r .w) (indexBlocks (r .s)) (stageBatch r f d)) s
+
+-- ---- an index block's numbers are small
+
+narrow-from : (k L w : ℕ) → k ≤ 64 → L ≤ 255 → ((v : ℕ) → k + 2 ≤ suc L ^ v → w ≤ v) → suc L ^ w ≤ 16777216
+narrow-from k L zero h g l = omega (arith, pow-zero (suc L))
+narrow-from k L (suc w) h g l =
+    let a : ¬ (k + 2 ≤ suc L ^ w) = λ q. let z : suc w ≤ w = l w q in omega arith in
+    let b : suc L ^ w ≤ 65 = omega arith in
+    let c : suc L ≤ 256 = omega arith in
+    subst (λ (x : ℕ). x ≤ 16777216) (sym (pow-suc (suc L) w)) (omega (arith, mul-le-mul b c))
+
+module _ (r : Settings) (p : StagedFacts r) (f : List ℕ) (v : Levelled r f) where
+  pub narrow : suc (r .top) ^ r .w ≤ 16777216
+  narrow = narrow-from (r .k) (r .top) (r .w) (omega (arith, staged-bits r p .1)) (p .top-most) (p .least)
+
+  module _ (d : ℕ) (h : d < r .s - 1) where
+    batch-long : length (stageBatch r f d) ≡ batchCells (r .s) (r .w)
+    batch-long = sym (ap length (batch-part r p f d _ refl))
+        ∙ length-take-le (batchCells (r .s) (r .w)) (drop (r .m * 2 ^ r .s + (r .s - 2 - d) * batchCells (r .s) (r .w)) f)
+        (omega (arith, length-drop (r .m * 2 ^ r .s + (r .s - 2 - d) * batchCells (r .s) (r .w)) f, v .long, batch-inside r p d h))
+
+    batch-low : Low (r .top) (stageBatch r f d)
+    batch-low =
+        let a : ℕ = r .m * 2 ^ r .s + (r .s - 2 - d) * batchCells (r .s) (r .w) in
+        subst (Low (r .top)) (batch-part r p f d a refl) (low-take (r .top) (batchCells (r .s) (r .w)) (drop a f) (low-drop (r .top) a f (v .low)))
+
+    -- what the scan of the stage asks for, in the rules' numbers
+    pub stage-fits : StageFits (parityLength d) (parityCount (r .s) (r .m) d) (r .w) (2 ^ r .s) (r .top) (mBlocks r f) (stageBatch r f d)
+    stage-fits =
+        let b : (4 ≤ r .k) × (r .k ≤ 64) = staged-bits r p in
+        let l : length (mBlocks r f) ≡ r .m * 2 ^ r .s = length-take-le (r .m * 2 ^ r .s) f (cells-in r p f v (r .m * 2 ^ r .s) refl) in
+        let e : d ≤ r .s - 1 = omega arith in
+        record {
+          bits = omega (arith, p .bits);
+          few = omega (arith, p .bits);
+          long = omega (arith, pow-pos d);
+          inside = omega (arith, parity-cells r p d e);
+          short = omega (arith, cells-most r p);
+          level = p .top-least;
+          low = low-take (r .top) (r .m * 2 ^ r .s) f (v .low);
+          indexed = record { holds = omega (arith, batch-long); short = omega (arith, batch-long, batch-inside r p d h, p .cells-most); narrow = narrow; low = batch-low };
+        }
+
+    module _ (c a b len count : ℕ) (e₁ : c ≡ r .m * 2 ^ r .s) (e₂ : a ≡ r .m * 2 ^ r .s + (r .s - 2 - d) * batchCells (r .s) (r .w)) (e₃ : b ≡ batchCells (r .s) (r .w))
+        (e₄ : len ≡ parityLength d) (e₅ : count ≡ parityCount (r .s) (r .m) d) where
+      lent : take (a + b - a) (drop a f) ≡ stageBatch r f d
+      lent = let q : a + b - a ≡ batchCells (r .s) (r .w) = omega arith in ap (λ (x : ℕ). take x (drop a f)) q ∙ batch-part r p f d a e₂
+
+      cut : take c f ≡ mBlocks r f
+      cut = ap (λ (x : ℕ). take x f) e₁
+
+      -- the parts as they are lent
+      pub batch-end : a + b ≤ length f
+      batch-end = omega (arith, batch-inside r p d h, v .long)
+
+      pub stage-asks : StageFits len count (r .w) (r .k) (r .top) (take c f) (take (a + b - a) (drop a f))
+      stage-asks = subst₂ (λ (xs ys : List ℕ). StageFits len count (r .w) (r .k) (r .top) xs ys) (sym cut) (sym lent)
+          (subst₂ (λ (x y : ℕ). StageFits x y (r .w) (r .k) (r .top) (mBlocks r f) (stageBatch r f d)) (sym e₄) (sym e₅)
+          (subst (λ (k : ℕ). StageFits (parityLength d) (parityCount (r .s) (r .m) d) (r .w) k (r .top) (mBlocks r f) (stageBatch r f d)) (p .bits) stage-fits))
+
+      pub stage-told : (s : StageScan) → StageScanned (r .k) (len * r .top) (chop len count (take c f)) (entries (r .top) (r .w) (2 * (r .k - 1)) (take (a + b - a) (drop a f))) s → ScannedAt r f d s
+      stage-told s g =
+          subst (λ (k : ℕ). StageScanned k (parityLength d * r .top) (parityBlocks (r .s) (r .m) d (mBlocks r f)) (entries (r .top) (r .w) (2 * (k - 1)) (stageBatch r f d)) s) (sym (p .bits))
+          (subst₂ (λ (x y : ℕ). StageScanned (r .k) (x * r .top) (chop x y (mBlocks r f)) (entries (r .top) (r .w) (2 * (r .k - 1)) (stageBatch r f d)) s) e₄ e₅
+          (subst₂ (λ (xs ys : List ℕ). StageScanned (r .k) (len * r .top) (chop len count xs) (entries (r .top) (r .w) (2 * (r .k - 1)) ys) s) cut lent g))
+
+  -- a scan of the stage is a look at the whole sheet
+  pub stage-bits : (d : ℕ) → AtStage r f (at d) → (s : StageScan) → ScannedAt r f d s → BitsOf r f (record { sound = s .sound; weights = s .weights })
+  unfolding S.read
+  stage-bits d a s h = record {
+    sound = λ t. stage-sound r p f (at d) a (h .right t .as-many, h .right t .names);
+    broken = λ t q. h .wrong t .0 (sound-stage r p f (at d) a q);
+    values = λ t i l. read-stage r p f (at d) a i ∙ stage-read h t i (omega (arith, staged-bits r p .1));
+  }

@@ -1,0 +1,233 @@
+-- Laws of the turns of the scan of one stage, on cells: what a turn does, how a stage breaks the rules, and what the scan answers. Assumes nothing.
+use mathlib.Core.Bool.{true, false}
+use mathlib.Core.List.{List, [], _∷_, _++_, append-assoc, append-nil, map}
+use mathlib.Core.Logic.{_≢_, ⊎-elim}
+use mathlib.Core.Path.{_≡_, _∙_, ap, refl, subst, sym}
+use Prim.Native.Nat.{ℕ, zero, suc, _+_, _-_, _*_, _≤_, _<_}
+use native.Mathlib.Decide.{ℕ-discrete}
+use native.Mathlib.Nat.{eq-or-lt-of-le, le-of-suc-le-suc}
+use native.Mathlib.Numerals.{add-one}
+use native.Mathlib.Omega.{arith}
+use lib.ListN.{drop, getD, length, length-append, length-map, set}
+use Rattle.laws.specs.Chop.{length-chop}
+use Rattle.laws.specs.Live.{chop-snoc, count-more}
+use Rattle.laws.specs.Parts.{chop-add, map-append}
+use Rattle.rules.specs.Batches.{entryOf}
+use Rattle.rules.specs.Cells.{block, chop, sum}
+use Rattle.rules.specs.SearchLaws.{pick-yes}
+use Rattle.rules.specs.Stage.{Entry, Names, StageOk, closed, index, indexes, liveWeights}
+use Rattle.stage.specs.Laws.{home-nowhere, home-there, passed-first-free, passed-free, passed-full, passed-none, passed-own}
+use Rattle.stage.specs.LiveLaws.{indexes-append, names-at, names-once, weights-append}
+use Rattle.stage.specs.Meaning.{ClosedFrom, NextIndex, Passed, ScanAt, StageScanned, Turn, begun, broken, endedBy, entries, entryAt, next-at, next-nowhere, withFree}
+use Rattle.stage.specs.declared.Live.{Live}
+use Rattle.stage.specs.declared.Live.the-variants.{At, Nowhere}
+use Rattle.stage.specs.declared.StageScan.{StageScan}
+
+-- ---- one more block
+
+-- one more parity block
+blocks-more : (len j : ℕ) (cells : List ℕ) → chop len (j + 1) cells ≡ chop len j cells ++ (block len cells j ∷ [])
+blocks-more len j cells = ap (λ (n : ℕ). chop len n cells) (add-one j) ∙ chop-snoc len j cells
+
+-- all parity blocks have more weights than those before a block that isn't full
+more-weights : (W len j n : ℕ) (cells : List ℕ) → j < n → sum (block len cells j) ≢ W → length (liveWeights W (chop len j cells)) < length (liveWeights W (chop len n cells))
+more-weights W len j n cells h o =
+    let d : ℕ = n - (j + 1) in
+    let q : n ≡ j + 1 + d = omega arith in
+    let bs : List (List ℕ) = chop len (j + 1) cells in
+    let cs : List (List ℕ) = chop len d (drop ((j + 1) * len) cells) in
+    let e : length (liveWeights W (chop len n cells)) ≡ length (liveWeights W bs ++ liveWeights W cs) =
+    ap (λ (m : ℕ). length (liveWeights W (chop len m cells))) q ∙ ap (λ (r : List (List ℕ)). length (liveWeights W r)) (chop-add len (j + 1) d cells) ∙ ap length (weights-append W bs cs) in
+    omega (arith, length-append (liveWeights W bs) (liveWeights W cs), count-more W len j cells o)
+
+module _ (L w : ℕ) (batch : List ℕ) where
+  -- one more index block
+  entries-more : (x : ℕ) → entries L w (x + 1) batch ≡ entries L w x batch ++ (entryAt L w batch x ∷ [])
+  entries-more x = ap (λ (n : ℕ). entries L w n batch) (add-one x) ∙ ap (map (entryOf L w)) (chop-snoc w x batch) ∙ map-append (entryOf L w) (chop w x batch) (block w batch x ∷ [])
+
+  -- how many they are
+  length-entries : (x : ℕ) → length (entries L w x batch) ≡ x
+  length-entries x = length-map (chop w x batch) (entryOf L w) ∙ length-chop w x batch
+
+  -- the indexes past index block x, of q
+  pastIt : ℕ → ℕ → List ℕ
+  pastIt q x = indexes (entries L w (q - (x + 1)) (drop ((x + 1) * w) batch))
+
+  -- index block x among all of them
+  among : (q x u : ℕ) → x < q → entryAt L w batch x ≡ index u → indexes (entries L w q batch) ≡ indexes (entries L w x batch) ++ (u ∷ pastIt q x)
+  unfolding pastIt
+  among q x u h e =
+      let d : ℕ = q - (x + 1) in
+      let p : q ≡ x + 1 + d = omega arith in
+      let es : List Entry = entries L w x batch in
+      let fs : List Entry = entries L w d (drop ((x + 1) * w) batch) in
+      ap (λ (n : ℕ). indexes (entries L w n batch)) p
+      ∙ ap (λ (r : List (List ℕ)). indexes (map (entryOf L w) r)) (chop-add w (x + 1) d batch)
+      ∙ ap indexes (map-append (entryOf L w) (chop w (x + 1) batch) (chop w d (drop ((x + 1) * w) batch)))
+      ∙ indexes-append (entries L w (x + 1) batch) fs
+      ∙ ap (λ (r : List Entry). indexes r ++ indexes fs) (entries-more x ∙ ap (λ (y : Entry). es ++ (y ∷ [])) e)
+      ∙ ap (λ (r : List ℕ). r ++ indexes fs) (indexes-append es (index u ∷ []))
+      ∙ append-assoc (indexes es) (u ∷ []) (indexes fs)
+
+module _ (k W none : ℕ) where
+  -- a full parity block is passed
+  block-passed : (len j : ℕ) (cells : List ℕ) (es : List Entry) (s : StageScan) → Passed k W none (chop len j cells) es s → sum (block len cells j) ≡ W → Passed k W none (chop len (j + 1) cells) es s
+  block-passed len j cells es s g e =
+      subst (λ (bs : List (List ℕ)). Passed k W none bs es s) (sym (blocks-more len j cells))
+      (subst (λ (fs : List Entry). Passed k W none (chop len j cells ++ (block len cells j ∷ [])) fs s) (append-nil es)
+      (passed-full k W none (chop len j cells) es s g (block len cells j ∷ []) [] (pick-yes (ℕ-discrete (sum (block len cells j)) W) _ _ e) refl))
+
+  -- a full index block is passed
+  entry-passed : (L w : ℕ) (batch : List ℕ) (bs : List (List ℕ)) (s : StageScan) (x : ℕ) → Passed k W none bs (entries L w x batch) s → entryAt L w batch x ≡ closed → Passed k W none bs (entries L w (x + 1) batch) s
+  entry-passed L w batch bs s x g e =
+      subst (λ (es : List Entry). Passed k W none bs es s) (sym (entries-more L w batch x))
+      (subst (λ (cs : List (List ℕ)). Passed k W none cs (entries L w x batch ++ (entryAt L w batch x ∷ [])) s) (append-nil bs)
+      (passed-full k W none bs (entries L w x batch) s g [] (entryAt L w batch x ∷ []) refl (ap (λ (y : Entry). indexes (y ∷ [])) e)))
+
+  -- full index blocks are passed
+  entries-passed : (L w : ℕ) (batch : List ℕ) (bs : List (List ℕ)) (s : StageScan) (x y : ℕ) → x ≤ y → ClosedFrom L w batch x y → Passed k W none bs (entries L w x batch) s → Passed k W none bs (entries L w y batch) s
+  entries-passed L w batch bs s x zero h c g = let e : x ≡ 0 = omega arith in subst (λ (n : ℕ). Passed k W none bs (entries L w n batch) s) e g
+  entries-passed L w batch bs s x (suc y) h c g =
+      ⊎-elim (λ e. subst (λ (n : ℕ). Passed k W none bs (entries L w n batch) s) e g)
+      (λ l. subst (λ (n : ℕ). Passed k W none bs (entries L w n batch) s) (add-one y)
+      (entry-passed L w batch bs s y (entries-passed L w batch bs s x y (le-of-suc-le-suc l) (λ z a b. c z a (omega arith)) g) (c y (le-of-suc-le-suc l) (omega arith)))) (eq-or-lt-of-le h)
+
+-- ---- the index block found
+
+module _ {L w : ℕ} {batch : List ℕ} {q from : ℕ} where
+  -- what an index block found says
+  at-said : {x u : ℕ} → NextIndex L w batch q from (At x u) → (from ≤ x) × (x < q) × ClosedFrom L w batch from x × (entryAt L w batch x ≡ index u)
+  at-said (next-at x u a b c e) = (a, b, c, e)
+
+  -- what none found says
+  nowhere-said : NextIndex L w batch q from Nowhere → ClosedFrom L w batch from q
+  nowhere-said (next-nowhere c) = c
+
+  -- the look found one
+  found : {r : Live} {x u : ℕ} → NextIndex L w batch q from r → r ≡ At x u → (from ≤ x) × (x < q) × ClosedFrom L w batch from x × (entryAt L w batch x ≡ index u)
+  found n e = at-said (subst (NextIndex L w batch q from) e n)
+
+  -- it found none
+  found-none : {r : Live} → NextIndex L w batch q from r → r ≡ Nowhere → ClosedFrom L w batch from q
+  found-none n e = nowhere-said (subst (NextIndex L w batch q from) e n)
+
+-- ---- what the scan answers
+
+-- a scan that has passed all of them
+scanned-right : (k W count : ℕ) (bs : List (List ℕ)) (es : List Entry) (s : StageScan) → length bs ≡ count → Passed k W count bs es s → StageScanned k W bs es s
+scanned-right k W count bs es s e g = record {
+  right = λ t. subst (λ (n : ℕ). Passed k W n bs es s) (sym e) g;
+  wrong = λ f. let t : s .sound ≡ true = g .sound in let z : _≡_ {A = ℕ} 0 1 = cc in absurd (omega arith);
+}
+
+-- the scan of a stage that breaks the rules
+scanned-wrong : {k W : ℕ} {bs : List (List ℕ)} {es : List Entry} {s : StageScan} → s ≡ broken → ¬ StageOk k W bs es → StageScanned k W bs es s
+scanned-wrong {s = s} e n = record {
+  right = λ t. let f : s .sound ≡ false = ap (λ (r : StageScan). r .sound) e in let z : _≡_ {A = ℕ} 0 1 = cc in absurd (omega arith);
+  wrong = λ f. (n, e);
+}
+
+-- ---- turns
+
+-- a scan begins with nothing passed
+pub scan-begun : {k W none len : ℕ} {cells : List ℕ} {L w : ℕ} {batch : List ℕ} {q : ℕ} → k ≤ 64 → ScanAt k W none len cells L w batch q 0 0 (begun none)
+scan-begun {k} {W} {none} h = record { few = h; in-cells = omega arith; in-batch = omega arith; passed = passed-none k W none }
+
+module _ {k W none len : ℕ} {cells : List ℕ} {L w : ℕ} {batch : List ℕ} {q j x : ℕ} {s : StageScan} (h : ScanAt k W none len cells L w batch q j x s) where
+  -- it stands past full index blocks as well
+  moved : {y : ℕ} → x ≤ y → y ≤ q → ClosedFrom L w batch x y → ScanAt k W none len cells L w batch q j y s
+  moved {y} a b c = record { few = h .few; in-cells = h .in-cells; in-batch = b; passed = entries-passed k W none L w batch (chop len j cells) s x y a c (h .passed) }
+
+  module _ {v : ℕ} (l : j < none) (m : v ≡ sum (block len cells j)) where
+    -- a full parity block is passed
+    pub turn-full : v ≡ W → ScanAt k W none len cells L w batch q (j + 1) x s
+    turn-full e = record { few = h .few; in-cells = omega arith; in-batch = h .in-batch; passed = block-passed k W none len j cells (entries L w x batch) s (h .passed) (sym m ∙ e) }
+
+    module _ {r : Live} (n : v ≢ W) (f : NextIndex L w batch q x r) where
+      -- for one that isn't, the next index block is taken up
+      pub turn-begun : (y u : ℕ) → r ≡ At y u → Turn k W none len cells L w batch q j y u v s
+      turn-begun y u e =
+          let o : (x ≤ y) × (y < q) × ClosedFrom L w batch x y × (entryAt L w batch y ≡ index u) = found f e in
+          record { here = moved (o .0) (omega arith) (o .2); a-block = l; an-index = o .1; weight = m; live = n; entry = o .3 }
+
+      -- and where there is none, fewer index blocks than parity blocks aren't full
+      pub too-few : {s′ : StageScan} → r ≡ Nowhere → s′ ≡ broken → StageScanned k W (chop len none cells) (entries L w q batch) s′
+      too-few e b = scanned-wrong b (λ ok.
+          let a : length (indexes (entries L w q batch)) ≡ length (liveWeights W (chop len j cells)) = moved (h .in-batch) (omega arith) (found-none f e) .passed .as-many in
+          omega (arith, ok .0, more-weights W len j none cells l (λ z. n (m ∙ z))))
+
+  -- past the last parity block no index block may be left
+  pub scan-ended : {r : Live} {s′ : StageScan} → none ≤ j → NextIndex L w batch q x r → s′ ≡ endedBy s r → StageScanned k W (chop len none cells) (entries L w q batch) s′
+  scan-ended l (next-at y u a b c e) p = scanned-wrong p (λ ok.
+      let n : j ≡ none = omega (arith, h .in-cells) in
+      let m : length (indexes (entries L w y batch)) ≡ length (liveWeights W (chop len none cells)) = moved a (omega arith) c .passed .as-many ∙ ap (λ (i : ℕ). length (liveWeights W (chop len i cells))) n in
+      let o : length (indexes (entries L w q batch)) ≡ length (indexes (entries L w y batch) ++ (u ∷ pastIt L w batch q y)) = ap length (among L w batch q y u b e) in
+      omega (arith, ok .0, length-append (indexes (entries L w y batch)) (u ∷ pastIt L w batch q y)))
+  scan-ended l (next-nowhere c) p =
+      let n : j ≡ none = omega (arith, h .in-cells) in
+      subst (StageScanned k W (chop len none cells) (entries L w q batch)) (sym p)
+      (scanned-right k W none (chop len none cells) (entries L w q batch) s (length-chop len none cells)
+      (subst (λ (i : ℕ). Passed k W none (chop len i cells) (entries L w q batch) s) n (moved (h .in-batch) (omega arith) c .passed)))
+
+module _ {k W none len : ℕ} {cells : List ℕ} {L w : ℕ} {batch : List ℕ} {q j x u v : ℕ} {s : StageScan} (t : Turn k W none len cells L w batch q j x u v s) where
+  -- the turn ends with both blocks passed
+  turned : (y : ℕ) (s′ : StageScan) → u ≡ y → Passed k W none (chop len j cells ++ (block len cells j ∷ [])) (entries L w x batch ++ (index y ∷ [])) s′
+      → ScanAt k W none len cells L w batch q (j + 1) (x + 1) s′
+  turned y s′ z r = record {
+    few = t .here .few;
+    in-cells = omega (arith, t .a-block);
+    in-batch = omega (arith, t .an-index);
+    passed =
+        subst (λ (bs : List (List ℕ)). Passed k W none bs (entries L w (x + 1) batch) s′) (sym (blocks-more len j cells))
+        (subst (λ (es : List Entry). Passed k W none (chop len j cells ++ (block len cells j ∷ [])) es s′)
+        (sym (entries-more L w batch x ∙ ap (λ (z : Entry). entries L w x batch ++ (z ∷ [])) (t .entry ∙ ap index z))) r);
+  }
+
+  -- the parity block isn't full
+  live-block : sum (block len cells j) ≢ W
+  live-block e = t .live (t .weight ∙ e)
+
+  -- those before it are some of all
+  in-all : length (chop len j cells) ≤ none
+  in-all = omega (arith, length-chop len j cells, t .a-block)
+
+  -- a further free block
+  pub turn-free : u ≡ 0 → s .free ≢ none → ScanAt k W none len cells L w batch q (j + 1) (x + 1) s
+  turn-free z h =
+      let g : Passed k W none (chop len j cells) (entries L w x batch) s = t .here .passed in
+      turned 0 s z (passed-free k W none (chop len j cells) (entries L w x batch) s g (block len cells j) live-block
+      (home-there W none 0 (chop len j cells) (entries L w x batch) (g .as-many) in-all _ _ _ (g .free) h))
+
+  -- the first free one
+  pub turn-first-free : u ≡ 0 → s .free ≡ none
+      → ScanAt k W none len cells L w batch q (j + 1) (x + 1) (withFree s j x v)
+  turn-first-free z h =
+      let g : Passed k W none (chop len j cells) (entries L w x batch) s = t .here .passed in
+      turned 0 _ z (passed-first-free k W none (chop len j cells) (entries L w x batch) s g (block len cells j) live-block j x v
+      (sym (length-chop len j cells)) (sym (length-entries L w batch x)) (t .weight)
+      (home-nowhere W none 0 (chop len j cells) (entries L w x batch) (g .as-many) in-all _ _ _ (g .free) (λ q. omega arith)))
+
+  -- a bit's
+  pub turn-own : (i : ℕ) → u ≡ suc i → i < k → ¬ (getD (s .places) i 0 < none)
+      → ScanAt k W none len cells L w batch q (j + 1) (x + 1)
+      (record { sound = s .sound; places = set (s .places) i j; slots = set (s .slots) i x; weights = set (s .weights) i v; free = s .free; «free_slot» = s .«free_slot»; «free_weight» = s .«free_weight» })
+  turn-own i z l a =
+      let g : Passed k W none (chop len j cells) (entries L w x batch) s = t .here .passed in
+      let m : i < 64 = omega (arith, t .here .few) in
+      turned (suc i) _ z (passed-own k W none (chop len j cells) (entries L w x batch) s g (block len cells j) live-block j x v
+      (sym (length-chop len j cells)) (sym (length-entries L w batch x)) (t .weight) i l m
+      (home-nowhere W none (suc i) (chop len j cells) (entries L w x batch) (g .as-many) in-all _ _ _ (g .homes i m) a))
+
+  -- an index exceeds k
+  pub too-great : {s′ : StageScan} → k < u → s′ ≡ broken → StageScanned k W (chop len none cells) (entries L w q batch) s′
+  too-great l b = scanned-wrong b (λ ok.
+      omega (arith, names-at k u (indexes (entries L w x batch)) _ (subst (Names k) (among L w batch q x u (t .an-index) (t .entry)) (ok .1))))
+
+  -- two are equal and not 0
+  pub twice : {s′ : StageScan} (i : ℕ) → u ≡ suc i → i < k → getD (s .places) i 0 < none → s′ ≡ broken → StageScanned k W (chop len none cells) (entries L w q batch) s′
+  twice i z l p b = scanned-wrong b (λ ok.
+      let r : List ℕ = pastIt L w batch q x in
+      let g : Passed k W none (chop len j cells) (entries L w x batch) s = t .here .passed in
+      home-there W none (suc i) (chop len j cells) (entries L w x batch) (g .as-many) in-all _ _ _ (g .homes i (omega (arith, t .here .few))) (λ e. omega arith)
+      (names-once k i (indexes (entries L w x batch)) r
+      (subst (λ (y : ℕ). Names k (indexes (entries L w x batch) ++ (y ∷ r))) z (subst (Names k) (among L w batch q x u (t .an-index) (t .entry)) (ok .1)))))
