@@ -1,24 +1,27 @@
 -- Laws of plain sheets for the calls: check 6 by the scan and the spare cells, and the maps by the place found. Assumes nothing.
-use mathlib.Core.Path.{_≡_, refl, sym, ap, _∙_, subst, subst₂}
+use mathlib.Core.Path.{_≡_, refl, sym, ap, ap₂, _∙_, subst, subst₂}
 use mathlib.Core.Bool.{Bool, true, false, true≢false}
-use mathlib.Core.List.{List}
+use mathlib.Core.List.{List, _++_}
 use Prim.Native.Nat.{ℕ, suc, _+_, _-_, _*_, _%_, _≤_, _<_}
 use native.Mathlib.Omega.{arith}
 use lib.ListN.{length, getD, take, drop, replicate, length-drop}
 use lib.Seq.{take-all}
-use Rattle.rules.specs.Search.{pick, Result, done, noPlace}
-use Rattle.rules.specs.Cells.{sum, same?, block, store}
+use Rattle.rules.specs.Search.{pick, nowhere, Result, done, noPlace}
+use Rattle.rules.specs.Cells.{sum, same?, block, store, firstAbove}
 use Rattle.rules.specs.Block.{cycle}
 use Rattle.rules.specs.Plain.{Spare, BlocksOk}
 use Rattle.rules.specs.AcceptLaws.{PlainFacts}
-use Rattle.rules.specs.Calls.{Sound, readBit}
-use Rattle.rules.specs.Promises.{outcome}
+use Rattle.rules.specs.Calls.{Sound, readBit, bitsOf, eraseChecks, readCall}
+use Rattle.rules.specs.Promises.{outcome, readOut}
 use Rattle.rules.specs.declared.Settings.{Settings}
 use Rattle.rules.specs.declared.Answer.the-variants.{Done, BadSheet, Erase}
-use Rattle.laws.specs.Calls.{sheet-broken, sheet-maps}
+use Rattle.laws.specs.Calls.{sheet-broken, sheet-maps, size-passed, read-sound}
+use Rattle.laws.specs.Lists.{tabulate-same}
+use Rattle.rules.specs.declared.Check.the-variants.{Pass}
+use Rattle.block.specs.Laws.{fine-low}
 use Rattle.laws.specs.Kinds.{plain-sound, sound-plain, plain-read, plain-change}
 use Rattle.block.specs.StateLaws.{test-true, test-false}
-use Rattle.plain.specs.Meaning.{Scanned, PlaceOf, step, erase, placeIn}
+use Rattle.plain.specs.Meaning.{parities, Scanned, PlaceOf, step, erase, placeIn}
 use Rattle.plain.specs.Laws.{block-end, scanned-place, scanned-read, step-raises}
 use Rattle.plain.specs.declared.Scan.{Scan}
 use Rattle.plain.specs.declared.Found.{Found}
@@ -120,3 +123,16 @@ module _ (r : Settings) (xs : List ℕ) (f : PlainFacts r) (v : Levelled r xs) (
 
     pub plain-step : (i j w : ℕ) → i < r .k → placeIn s i (r .m) ≡ At j w → Stepped r xs i j w
     plain-step i j w l n = step-from i j w l (plain-place i l) n
+
+-- ---- the calls
+
+-- once the levels are looked at, the sheet is levelled
+pub levelled : (r : Settings) (xs : List ℕ) → eraseChecks r xs ≡ Pass → firstAbove (r .top) xs ≡ nowhere → Levelled r xs
+levelled r xs p e = record { long = size-passed r xs p .1; low = fine-low (r .top) xs e }
+
+-- a reading that is written out
+pub read-made : (r : Settings) (xs out : List ℕ) (b : Bits) (ones : ℕ) (places : List ℕ) → eraseChecks r xs ≡ Pass → r .k ≤ length out → firstAbove (r .top) xs ≡ nowhere
+    → BitsOf r xs b → b .sound ≡ true → ones ≡ sum (parities (r .k) (b .weights)) → places ≡ parities (r .k) (b .weights) ++ drop (r .k) out → readOut (Done ones) places ≡ readCall r xs out
+read-made r xs out b ones places p l e h t q w =
+    let z : parities (r .k) (b .weights) ≡ bitsOf r xs = sym (tabulate-same (r .k) (readBit r xs) (λ i. getD (b .weights) i 0 % 2) (h .values t)) in
+    ap₂ (λ (x : ℕ) (ys : List ℕ). readOut (Done x) ys) (q ∙ ap sum z) (w ∙ ap (λ (ys : List ℕ). ys ++ drop (r .k) out) z) ∙ sym (read-sound r xs out p l e (h .sound t))

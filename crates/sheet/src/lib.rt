@@ -3,6 +3,9 @@ mod kind0;
 mod kind1;
 mod layout;
 
+use block::Level;
+use block::first_above;
+use plain::write_bits;
 use rules::Answer;
 use rules::Check;
 use rules::Settings;
@@ -12,7 +15,9 @@ ghost use Prim.Native.Nat.{_+_, _*_, _≤_, _<_};
 ghost use native.Mathlib.Decide.{ℕ-discrete};
 ghost use lib.ListN.{length};
 ghost use Rattle.rules.specs.Calls.{ask, andThen, checkShape};
-ghost use Rattle.rules.specs.Promises.{ErasePromise};
+ghost use Rattle.rules.specs.Accept.{Genuine};
+ghost use Rattle.rules.specs.Promises.{ErasePromise, ReadPromise};
+ghost use Rattle.sheet.specs.Meaning.{Levelled, BitsOf};
 ghost use Rattle.rules.specs.declared.Answer.the-variants.{BadLength};
 
 // What a look at a whole sheet finds: whether it keeps the sheet rules, and a weight for every bit, whose parity is the bit's value.
@@ -53,4 +58,36 @@ pub fn erase(settings: Settings, sheet: &mut [u8]) -> Answer
     }
     staged::fill(sheet, 0);
     Answer::Done(settings.guarantee())
+}
+
+// What the cells of a sheet say, by its kind.
+fn bits_of(settings: Settings, sheet: &[u8]) -> Bits
+    requires { ⌜ Genuine settings × Levelled settings (now sheet) ⌝ }
+    ensures { λ b. ⌜ BitsOf settings (now (sheet .entry)) b ⌝ }
+{
+    if settings.kind == 0 {
+        return kind0::plain_bits(settings, sheet);
+    }
+    kind1::staged_bits(settings, sheet)
+}
+
+// Read: the k bits are written, 0 or 1, bit 0 first, and no place after them is touched.
+pub fn read(settings: Settings, sheet: &[u8], out: &mut [u8]) -> Answer
+    ensures { λ r. ⌜ ReadPromise settings (now (sheet .entry)) (now (out .entry)) r (now (out .exit)) ⌝ }
+{
+    if let Check::Refuse(answer) = check_size(settings, sheet.len()) {
+        return answer;
+    }
+    if out.len() < settings.k {
+        return Answer::ShortOutput;
+    }
+    if let Level::Above(cell) = first_above(sheet, settings.top as u8) {
+        return Answer::BadLevel(cell);
+    }
+    let b = bits_of(settings, sheet);
+    if !b.sound {
+        return Answer::BadSheet;
+    }
+    let weights = b.weights;
+    Answer::Done(write_bits(out, settings.k, weights))
 }
