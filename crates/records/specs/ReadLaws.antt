@@ -29,7 +29,7 @@ bits-few : (r : Settings) → Genuine r → r .k ≤ mostBits
 bits-few r g = ⊎-elim (λ f. f .bits-most) (λ f. subst (λ (k : ℕ). k ≤ mostBits) (f .bits) (pow-mono (f .stages-most))) (genuine-facts r g)
 
 -- k places are enough
-zeros-enough : (r : Settings) → r .k ≤ length (replicate {A = ℕ} (r .k) 0)
+pub zeros-enough : (r : Settings) → r .k ≤ length (replicate {A = ℕ} (r .k) 0)
 zeros-enough r = omega (arith, length-replicate {A = ℕ} (r .k) 0)
 
 module _ (r : Settings) (xs out : List ℕ) (h : mostBits ≤ length out) where

@@ -7,8 +7,11 @@ ghost use mathlib.Core.Path.{_≡_};
 ghost use Prim.Native.Nat.{_+_, _*_, _≤_, _<_};
 ghost use lib.ListN.{length, getD, take};
 ghost use Rattle.rules.specs.Cells.{sum};
-ghost use Rattle.rules.specs.Records.{operation, cellsAsked, checkForm, checkUnused, checkHeld, heldAfter, eraseStep};
-ghost use Rattle.records.specs.Meaning.{stepOf, asked, checkUse, checkRecord, Front};
+ghost use Rattle.rules.specs.Records.{operation, cellsAsked, checkForm, checkUnused, checkHeld, heldAfter, eraseStep, readStep};
+ghost use Rattle.records.specs.Meaning.{stepOf, asked, checkUse, checkRecord, Front, BitsShown};
+
+// The most bits.
+const MOST_BITS: usize = 64;
 
 // Byte i of a record, as a number.
 fn byte_at(bytes: &[u8], i: usize) -> usize
@@ -157,6 +160,19 @@ fn obey_erase(new: Settings, held: Settings, cells: &mut [u8]) -> Setup
     Setup { answer, settings }
 }
 
+// Operation 3: the sheet held is read; the bits it has are shown after every record, so here its answer is enough.
+fn obey_read(held: Settings, cells: &[u8]) -> Setup
+    ensures { λ r. ⌜ stepOf r (now (cells .entry)) ≡ readStep held (now (cells .entry)) ⌝ }
+{
+    let n = front(held.n, cells);
+    let mut places = [0u8; MOST_BITS];
+    let answer = sheet::read(held, &cells[..n], &mut places);
+    Setup {
+        answer,
+        settings: held,
+    }
+}
+
 // The sum of the levels of the sheet held.
 pub fn sum_held(held: Settings, cells: &[u8]) -> usize
     requires { ⌜ length (now cells) ≤ 65536 ⌝ }
@@ -164,4 +180,17 @@ pub fn sum_held(held: Settings, cells: &[u8]) -> usize
 {
     let n = front(held.n, cells);
     block::sum_of(&cells[..n])
+}
+
+// The bits of the sheet held, into the first places of out; answers how many, 0 while there is no sheet.
+pub fn bits_held(held: Settings, cells: &[u8], out: &mut [u8]) -> usize
+    requires { ⌜ 64 ≤ length (now out) ⌝ }
+    ensures { λ r. ⌜ BitsShown held (now (cells .entry)) (now (out .exit)) r ⌝ }
+{
+    let n = front(held.n, cells);
+    let answer = sheet::read(held, &cells[..n], out);
+    if answer.number() == 0 {
+        return held.k;
+    }
+    0
 }

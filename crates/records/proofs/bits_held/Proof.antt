@@ -1,0 +1,51 @@
+-- A reading that is done has the bits, and one that is refused has none.
+use mathlib.Core.Path.{sym, _∙_}
+use Rattle.records.specs.ReadLaws.{bits-done, bits-none}
+use borrow.Author.Needs.{needs}
+use Rattle.records.proofs.bits_held.Statement.{statement}
+use Rattle.records.proofs.bits_held.Tie as tie
+
+front-requires : tie.Need-front-requires
+front-requires c κs = search needs
+
+slice-aggregate-read : tie.Need-slice-aggregate-read
+slice-aggregate-read c = search needs
+
+read-requires : tie.Need-read-requires
+read-requires c κs = search needs
+
+number-requires : tie.Need-number-requires
+number-requires c κs = search needs
+
+same-length : tie.Need-same-length
+same-length c = search needs
+
+returns : tie.Need-returns
+returns c =
+    let n = c .before in
+    let e = n .before .before .before in
+    let s = e .before .before .before .before .before .before in
+    bits-done (s .args .held) (s .args .cells .now) _ _ _ (e .read .result) (s .pre) (e .before .before .before .front .ensures) (e .read .ensures) (sym (n .number .ensures) ∙ c .if1 .taken)
+
+same-length-2 : tie.Need-same-length-2
+same-length-2 c = search needs
+
+returns-2 : tie.Need-returns-2
+returns-2 c =
+    let n = c .before in
+    let e = n .before .before .before in
+    let s = e .before .before .before .before .before .before in
+    bits-none (s .args .held) (s .args .cells .now) _ _ _ (e .read .result) (s .pre) (e .before .before .before .front .ensures) (e .read .ensures) (λ z. c .if1 .left (n .number .ensures ∙ z))
+
+pub bits-held-spec : {M : Type 1} → statement M
+bits-held-spec =
+    tie.close
+    (tie.spec
+    front-requires
+    slice-aggregate-read
+    read-requires
+    number-requires
+    same-length
+    returns
+    same-length-2
+    returns-2)
