@@ -77,8 +77,9 @@ shown (Refuse a) bits = []
 abbrev pub bitsHeld : Settings → List ℕ → List ℕ
 bitsHeld r xs = shown (readChecks r (take (r .n) xs) (replicate (r .k) 0)) (bitsOf r (take (r .n) xs))
 
--- the first a places of ys are those bits
-pub record BitsShown (r : Settings) (xs ys : List ℕ) (a : ℕ) : Type 0 where
+-- the first a places of ys are those bits, and the places after them are those of out
+pub record BitsShown (r : Settings) (xs out ys : List ℕ) (a : ℕ) : Type 0 where
   pub inside : a ≤ length ys
   pub counted : a ≡ length (take a ys)
   pub bits : take a ys ≡ bitsHeld r xs
+  pub rest : drop a ys ≡ drop a out

@@ -8,7 +8,7 @@ use native.Mathlib.Decide.{ℕ-discrete, decLe}
 use native.Mathlib.Omega.{arith}
 use lib.ListN.{length, take, drop, replicate, length-replicate, length-append}
 use lib.Pow.{pow-mono}
-use lib.Seq.{length-take-le, take-at}
+use lib.Seq.{take-at, drop-at}
 use Rattle.rules.specs.Accept.{mostBits, Genuine, genuine?}
 use Rattle.rules.specs.AcceptLaws.{genuine-facts}
 use Rattle.rules.specs.Answer.{numberOf}
@@ -88,22 +88,22 @@ module _ (r : Settings) (xs out places : List ℕ) (n : ℕ) (a : Answer) (h : m
   shown-by e = ap (λ (c : Check). shown c (bitsOf r (take (r .n) xs))) (sym (checks-same r (take (r .n) xs) out h) ∙ e)
 
   -- a reading that is done has the bits in its first k places
-  pub bits-done : numberOf a ≡ 0 → BitsShown r xs places (r .k)
+  pub bits-done : numberOf a ≡ 0 → BitsShown r xs out places (r .k)
   bits-done z = go (read-checks r (take (r .n) xs) out) refl found
     where
-      go : {c : Check} → Checked (Accepted r (take (r .n) xs) × (r .k ≤ length out)) c → readChecks r (take (r .n) xs) out ≡ c → readOut a places ≡ reading r (take (r .n) xs) out c → BitsShown r xs places (r .k)
+      go : {c : Check} → Checked (Accepted r (take (r .n) xs) × (r .k ≤ length out)) c → readChecks r (take (r .n) xs) out ≡ c → readOut a places ≡ reading r (take (r .n) xs) out c → BitsShown r xs out places (r .k)
       go (passed q) e w =
           let ys = bitsOf r (take (r .n) xs) in
           let v : places ≡ ys ++ drop (r .k) out = ap (λ (o : Reading). o .places) w in
           let l : length ys ≡ r .k = length-tabulate (r .k) (readBit r (take (r .n) xs)) in
           let t : take (r .k) places ≡ ys = ap (take (r .k)) v ∙ take-at ys (drop (r .k) out) (r .k) l in
-          record { inside = omega (arith, ap length v, length-append ys (drop (r .k) out), l); counted = sym (ap length t ∙ l); bits = t ∙ sym (shown-by e) }
+          record { inside = omega (arith, ap length v, length-append ys (drop (r .k) out), l); counted = sym (ap length t ∙ l); bits = t ∙ sym (shown-by e); rest = ap (drop (r .k)) v ∙ drop-at ys (drop (r .k) out) (r .k) l }
       go (refused x q) e w = absurd (refusal-number x q (ap (λ (o : Reading). numberOf (o .answer)) (sym w) ∙ z))
 
   -- a reading that is refused has none
-  pub bits-none : ¬ (numberOf a ≡ 0) → BitsShown r xs places 0
+  pub bits-none : ¬ (numberOf a ≡ 0) → BitsShown r xs out places 0
   bits-none z = go (read-checks r (take (r .n) xs) out) refl found
     where
-      go : {c : Check} → Checked (Accepted r (take (r .n) xs) × (r .k ≤ length out)) c → readChecks r (take (r .n) xs) out ≡ c → readOut a places ≡ reading r (take (r .n) xs) out c → BitsShown r xs places 0
+      go : {c : Check} → Checked (Accepted r (take (r .n) xs) × (r .k ≤ length out)) c → readChecks r (take (r .n) xs) out ≡ c → readOut a places ≡ reading r (take (r .n) xs) out c → BitsShown r xs out places 0
       go (passed q) e w = absurd (z (ap (λ (o : Reading). numberOf (o .answer)) w))
-      go (refused x q) e w = record { inside = omega arith; counted = refl; bits = sym (shown-by e) }
+      go (refused x q) e w = record { inside = omega arith; counted = refl; bits = sym (shown-by e); rest = ap (λ (o : Reading). o .places) w }

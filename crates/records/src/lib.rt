@@ -6,6 +6,7 @@ use rules::Setup;
 ghost use mathlib.Core.Path.{_≡_};
 ghost use Prim.Native.Nat.{_+_, _*_, _≤_, _<_};
 ghost use lib.ListN.{length, getD, take};
+ghost use Rattle.rules.specs.Accept.{mostBits};
 ghost use Rattle.rules.specs.Cells.{sum};
 ghost use Rattle.rules.specs.Records.{operation, cellsAsked, checkForm, checkUnused, checkHeld, heldAfter, eraseStep, readStep};
 ghost use Rattle.records.specs.Meaning.{stepOf, asked, checkUse, checkRecord, Front, BitsShown};
@@ -182,10 +183,10 @@ pub fn sum_held(held: Settings, cells: &[u8]) -> usize
     block::sum_of(&cells[..n])
 }
 
-// The bits of the sheet held, into the first places of out; answers how many, 0 while there is no sheet.
+// The bits of the sheet held, into the first places of out, and no place after them touched; answers how many, 0 while there is no sheet.
 pub fn bits_held(held: Settings, cells: &[u8], out: &mut [u8]) -> usize
-    requires { ⌜ 64 ≤ length (now out) ⌝ }
-    ensures { λ r. ⌜ BitsShown held (now (cells .entry)) (now (out .exit)) r ⌝ }
+    requires { ⌜ mostBits ≤ length (now out) ⌝ }
+    ensures { λ r. ⌜ BitsShown held (now (cells .entry)) (now (out .entry)) (now (out .exit)) r ⌝ }
 {
     let n = front(held.n, cells);
     let answer = sheet::read(held, &cells[..n], out);
