@@ -12,7 +12,7 @@ use Rattle.laws.specs.Block.{rises}
 use Rattle.laws.specs.Chop.{chop-join, chop-sized, join-chop, length-chop, length-join, length-record, low-join, sum-join, sums-chop}
 use Rattle.laws.specs.Halve.{plain-live}
 use Rattle.laws.specs.Lists.{getD-tabulate, length-tabulate, sum-replicate}
-use Rattle.laws.specs.Parity.{count-width, even-width, half-live}
+use Rattle.laws.specs.Parity.{count-width, even-width, half-live, half-power, stage0-few}
 use Rattle.laws.specs.PlainMaps.{few, flips, keeps}
 use Rattle.laws.specs.Stage.{Forth, Sized, Used, full-sums, names-few, record-le, same, sums, used-append}
 use Rattle.lifetime.specs.Move.{Bits, entries-even, entries-names, entries-read, entries-used, indexes-pad, length-entries, record-sized}
@@ -212,22 +212,11 @@ module _ (s m L : ℕ) where
   -- ---- the law of every change
 
   module _ (i : ℕ) (here : i < 2 ^ s) (g : 0 < L) (pos : 1 < s) (room : 2 ^ s ≤ m) where
-    half : 2 ^ (s - 1) * 2 ≡ 2 ^ s
-    half = let e : suc (s - 1) ≡ s = omega arith in sym (pow-suc 2 (s - 1)) ∙ ap (λ (x : ℕ). 2 ^ x) e
-
-    -- the blocks of stage 0 are those of s - 1 left
-    stage0-few : (xs : List ℕ) → length (liveWeights (2 ^ s * L) (chop (2 ^ s) m xs)) < 2 ^ s → length (liveWeights (parityLength (s - 1) * L) (parityBlocks s m (s - 1) xs)) < 2 ^ s
-    stage0-few xs h =
-        let e : 2 ^ s ≡ parityLength (s - 1) = omega (arith, half) in
-        let f : s - 1 - (s - 1) ≡ 0 = omega arith in
-        let c : m ≡ parityCount s m (s - 1) = omega (arith, ap (λ (x : ℕ). m * 2 ^ x) f) in
-        subst₂ (λ (w n : ℕ). length (liveWeights (w * L) (chop w n xs)) < 2 ^ s) e c h
-
     from-stage0-law : (xs : List ℕ) → Fits (stage0 xs) → (a : Result (List ℕ)) → P.AnswerLaw (2 ^ s) L m (m * 2 ^ s) i xs a → (a ≡ noPlace → length (liveWeights (2 ^ s * L) (chop (2 ^ s) m xs)) < 2 ^ s)
         → ReplyLaw i (stage0 xs) (fromStage0 s m L xs (tabulate (2 ^ s) (after i (read s m L (stage0 xs)))) a)
     unfolding read
     from-stage0-law xs w (done ys) h q = record { fits = h .stays; rises = h .rises; onward = le-refl (s - 1); forward = tt; flips = h .flips; keeps = λ b l d. h .keeps b d; pays = omega (arith, h .adds) }
-    from-stage0-law xs w noPlace h q = moved i (stage0 xs) xs here (omega arith) (w .long) (w .low) refl (le-refl (s - 1)) (stage0-few xs (q refl))
+    from-stage0-law xs w noPlace h q = moved i (stage0 xs) xs here (omega arith) (w .long) (w .low) refl (le-refl (s - 1)) (stage0-few s m L xs (omega arith) (q refl))
 
     from-staged-law : (d : ℕ) (xs : List ℕ) (es : List Entry) → StagedFits d xs es → (a : Within) → InLaw (2 ^ s) (parityLength d) L i (parityBlocks s m d xs) es a
         → ReplyLaw i (staged d xs es) (fromStaged s m L d xs (tabulate (2 ^ s) (after i (read s m L (staged d xs es)))) a)
@@ -263,8 +252,8 @@ module _ (s m L : ℕ) where
     unfolding change
     reply-law (stage0 xs) w =
         let k : ℕ = 2 ^ s in
-        let two : 1 < k = omega (arith, half, pow-pos (s - 1)) in
-        let ev : k * L % 2 ≡ 0 = ap (λ (x : ℕ). x * L % 2) (sym half) ∙ omega arith in
+        let two : 1 < k = omega (arith, half-power s (omega arith), pow-pos (s - 1)) in
+        let ev : k * L % 2 ≡ 0 = ap (λ (x : ℕ). x * L % 2) (sym (half-power s (omega arith))) ∙ omega arith in
         from-stage0-law xs w (R.change k L m i xs) (P.answer-all k L m (m * k) two g ev (le-refl (m * k)) i here xs w)
         (λ e. plain-live k L m (m * k) two g ev (le-refl (m * k)) i here xs w (P.no-place-how k L m (m * k) two g ev (le-refl (m * k)) i here xs w e))
     reply-law (staged d xs es) w = from-staged-law d xs es w (changeWithin (parityLength d * L) L i (parityBlocks s m d xs) es)
@@ -277,13 +266,10 @@ pub data Run (s m L : ℕ) : ℕ → Sheet → Type 0 where
   more : (c i : ℕ) (x y : Sheet) → Run s m L c x → i < 2 ^ s → change s m L i x ≡ done y → Run s m L (suc c) y
 
 module _ (s m L : ℕ) (g : 0 < L) (pos : 1 < s) (room : 2 ^ s ≤ m) where
-  half₁ : 2 ^ (s - 1) * 2 ≡ 2 ^ s
-  half₁ = let e : suc (s - 1) ≡ s = omega arith in sym (pow-suc 2 (s - 1)) ∙ ap (λ (x : ℕ). 2 ^ x) e
-
   pub run-law : {c : ℕ} {x : Sheet} → Run s m L c x → Fits s m L x × (levels x + (2 ^ s - 1) * stagesLeft s x ≤ c + (2 ^ s - 1) * (s - 1))
   run-law begin = (
-    P.start (2 ^ s) L m (m * 2 ^ s) (omega (arith, half₁, pow-pos (s - 1))) g
-        (ap (λ (x : ℕ). x * L % 2) (sym half₁) ∙ omega arith) (le-refl (m * 2 ^ s)),
+    P.start (2 ^ s) L m (m * 2 ^ s) (omega (arith, half-power s (omega arith), pow-pos (s - 1))) g
+        (ap (λ (x : ℕ). x * L % 2) (sym (half-power s (omega arith))) ∙ omega arith) (le-refl (m * 2 ^ s)),
     omega (arith, sum-replicate (m * 2 ^ s) 0),
   )
   run-law (more c i x y r h e) =

@@ -187,3 +187,23 @@ fn move_on(
     };
     Answer::Done(make_move(settings, sheet, bit, to, weights))
 }
+
+// A change at stage 0: the next step among the m blocks, or on to a later stage.
+fn change_stage0(settings: Settings, sheet: &mut [u8], bit: usize) -> Answer
+    requires { ⌜ StagedFacts settings × Levelled settings (now sheet) × (bit < settings .k) × AtStage settings (now sheet) nowhere ⌝ }
+    ensures { λ r. ⌜ outcome r (now (sheet .exit)) ≡ fromSheet settings (now (sheet .entry)) bit ⌝ }
+{
+    let k = settings.k;
+    let top = settings.top as u8;
+    let cells = block_cells(settings);
+    let s = scan_blocks(&sheet[..cells], k, top, settings.m);
+    if !s.sound {
+        return Answer::BadSheet;
+    }
+    let weights = s.weights;
+    let Found::At(j, weight) = place_of(s, bit, settings.m) else {
+        return move_on(settings, sheet, bit, settings.s - 1, weights);
+    };
+    raise_block(sheet, k, top, j, bit, weight);
+    Answer::Done(1)
+}
