@@ -1,0 +1,199 @@
+//! Compares the second program with the compiled library and with the compiled drive program.
+//!
+//! ```text
+//! compare [--seed N] [--calls N] [--program PATH] [--light] [--exact] [--trace] [--itself]
+//! compare --replay 'CASE'
+//! compare --records N [--seed N]
+//! ```
+//!
+//! - `--seed N`: other random inputs; `--calls N`: so many random calls. From 1,000,000 calls on,
+//!   the longest runs and more files are compared too.
+//! - `--program PATH`, or HARPGINGER_PROGRAM: the compiled drive program, compared too.
+//! - `--light`: a part of each group, and no self-check. `--exact`: slices without guards, each in
+//!   memory of its own, for tools that watch memory. `--trace`: prints each case before it is run.
+//! - `--itself`: the model takes the compiled library's place.
+//! - `--replay 'CASE'`: runs one case, as a difference prints it.
+//! - `--records N`: writes a file of N records, to feed the drive program by hand.
+//!
+//! The compiled library is linked where HARPGINGER_ARCHIVE names the folder of libcapi.a while this
+//! is built. The last line counts each group and each part of the self-check as one; the exit
+//! status is 0 only if none failed.
+
+#[cfg(harpginger_archive)]
+mod foreign;
+
+use second::compare::{some_file, Case, Comparison, Compiled, Group, Library, Model, Plan, Size};
+use second::random::Random;
+use second::Flaw;
+use std::io::Write;
+use std::process::ExitCode;
+use std::time::Instant;
+
+/// What the command line asks for.
+struct Asked {
+    plan: Plan,
+    program: Option<String>,
+    itself: bool,
+    replay: Option<String>,
+    records: Option<usize>,
+}
+
+/// From so many calls on, the longest runs are made too.
+const LONG: u64 = 1_000_000;
+
+fn main() -> ExitCode {
+    let asked = match asked(std::env::args().skip(1)) {
+        Ok(asked) => asked,
+        Err(wrong) => {
+            eprintln!("compare: {wrong}");
+            return ExitCode::FAILURE;
+        }
+    };
+    let done = match (&asked.replay, asked.records) {
+        (Some(case), _) => replay(&asked, case),
+        (_, Some(records)) => write_records(asked.plan.seed, records),
+        _ => compare(&asked),
+    };
+    match done {
+        true => ExitCode::SUCCESS,
+        false => ExitCode::FAILURE,
+    }
+}
+
+fn asked(mut words: impl Iterator<Item = String>) -> Result<Asked, String> {
+    let mut asked = Asked {
+        plan: Plan {
+            seed: 1,
+            calls: 300_000,
+            size: Size::Default,
+            exact: false,
+            trace: false,
+        },
+        program: std::env::var("HARPGINGER_PROGRAM").ok(),
+        itself: false,
+        replay: None,
+        records: None,
+    };
+    while let Some(word) = words.next() {
+        let mut text = || words.next().ok_or(format!("{word} needs a word after it"));
+        let mut number = || {
+            text()?
+                .parse()
+                .map_err(|_| format!("{word} needs a number"))
+        };
+        match &word[..] {
+            "--seed" => asked.plan.seed = number()?,
+            "--calls" => asked.plan.calls = number()?,
+            "--records" => asked.records = Some(number()? as usize),
+            "--program" => asked.program = Some(text()?),
+            "--replay" => asked.replay = Some(text()?),
+            "--light" => asked.plan.size = Size::Light,
+            "--exact" => asked.plan.exact = true,
+            "--trace" => asked.plan.trace = true,
+            "--itself" => asked.itself = true,
+            _ => return Err(format!("unknown: {word}")),
+        }
+    }
+    if asked.plan.calls >= LONG && asked.plan.size != Size::Light {
+        asked.plan.size = Size::Long;
+    }
+    Ok(asked)
+}
+
+#[cfg(harpginger_archive)]
+fn foreign() -> Option<&'static dyn Library> {
+    Some(&foreign::Foreign)
+}
+
+#[cfg(not(harpginger_archive))]
+fn foreign() -> Option<&'static dyn Library> {
+    None
+}
+
+/// The library to compare with, and its name.
+fn library(asked: &Asked) -> Option<(&'static dyn Library, &'static str)> {
+    match asked.itself {
+        true => Some((&Model(Flaw::None), "the model itself")),
+        false => Some((foreign()?, "the compiled library")),
+    }
+}
+
+const MISSING: &str = "built without the compiled library: build with HARPGINGER_ARCHIVE";
+
+/// Counts of the groups so far.
+struct Score {
+    passed: u64,
+    failed: u64,
+    since: Instant,
+}
+
+impl Score {
+    fn count(&mut self, group: Group) {
+        let seconds = self.since.elapsed().as_secs_f32();
+        let verdict = if group.passed { "ok  " } else { "FAIL" };
+        println!("{verdict} {} ({seconds:.1} s)", group.text);
+        if let Some(difference) = group.difference {
+            println!("  the smallest found: {difference}");
+        }
+        match group.passed {
+            true => self.passed += 1,
+            false => self.failed += 1,
+        }
+    }
+}
+
+fn compare(asked: &Asked) -> bool {
+    let plan = &asked.plan;
+    let mut score = Score {
+        passed: 0,
+        failed: 0,
+        since: Instant::now(),
+    };
+    println!("seed {}, {} random calls", plan.seed, plan.calls);
+    match library(asked) {
+        Some((library, name)) => {
+            println!("the second program with {name}:");
+            plan.library(library, &mut |group| score.count(group));
+        }
+        None => {
+            println!("FAIL {MISSING}");
+            score.failed += 1;
+        }
+    }
+    match &asked.program {
+        Some(path) => {
+            println!("the second program with the drive program {path}:");
+            let path = path.into();
+            plan.program(&Compiled { path }, &mut |group| score.count(group));
+        }
+        None => println!("no drive program is compared: none was named"),
+    }
+    if plan.size != Size::Light {
+        println!("the comparison itself:");
+        plan.self_check(&mut |group| score.count(group));
+    }
+    println!("{} passed, {} failed", score.passed, score.failed);
+    score.failed == 0
+}
+
+fn replay(asked: &Asked, text: &str) -> bool {
+    let case: Case = match text.parse() {
+        Ok(case) => case,
+        Err(wrong) => {
+            println!("{wrong}");
+            return false;
+        }
+    };
+    let Some((library, _)) = library(asked) else {
+        println!("{MISSING}");
+        return false;
+    };
+    let (same, text) = Comparison::new(library, asked.plan.exact, true).replay(&case);
+    println!("{text}");
+    same
+}
+
+fn write_records(seed: u64, records: usize) -> bool {
+    let file = some_file(&mut Random::new(seed), records, 700, 20);
+    std::io::stdout().write_all(&file).is_ok()
+}

@@ -1,0 +1,165 @@
+//! What one run of the comparison does, and what its groups come to.
+
+use super::comparison::{Comparison, Tally};
+use super::impostor::Impostor;
+use super::library::{Library, Model};
+use super::programs::{compare_programs, show, Program};
+use super::{calls, forged, numbers, refusals, runs, tiny};
+use crate::Flaw;
+
+/// How much is run.
+#[derive(Clone, Copy, Debug, PartialEq, Eq)]
+pub enum Size {
+    /// A part of each group, for the self-check and for slow tools.
+    Light,
+    /// All groups.
+    Default,
+    /// All groups, and the longest runs.
+    Long,
+}
+
+/// What one run does.
+#[derive(Clone, Copy, Debug)]
+pub struct Plan {
+    /// Where random inputs start.
+    pub seed: u64,
+    /// Random calls.
+    pub calls: u64,
+    /// How much is run.
+    pub size: Size,
+    /// Lend slices without guards, each in memory of its own.
+    pub exact: bool,
+    /// Print each case before it is run.
+    pub trace: bool,
+}
+
+/// What one group came to.
+pub struct Group {
+    /// The group's name and its counts.
+    pub text: String,
+    /// Whether it is as it must be.
+    pub passed: bool,
+    /// The smallest difference, where there must be none.
+    pub difference: Option<String>,
+}
+
+/// A group of cases: its name and its work.
+type Cases = (&'static str, fn(&mut Comparison, &Plan));
+
+const GROUPS: [Cases; 7] = [
+    ("numbers", |comparison, _| numbers::numbers(comparison)),
+    ("settings", |comparison, _| numbers::settings(comparison)),
+    ("forged", |comparison, plan| {
+        forged::forged(comparison, plan.seed, plan.rounds(4, 60));
+    }),
+    ("refusals", |comparison, plan| {
+        refusals::refusals(comparison, plan.seed, plan.rounds(6, 60));
+    }),
+    ("tiny", |comparison, _| tiny::tiny(comparison)),
+    ("calls", |comparison, plan| {
+        calls::calls(comparison, plan.seed, plan.calls);
+    }),
+    ("runs", |comparison, plan| {
+        runs::runs(comparison, plan.seed, plan.size);
+    }),
+];
+
+impl Plan {
+    /// The same inputs, fewer of them.
+    pub fn light(self) -> Plan {
+        Plan {
+            calls: self.calls.min(10_000),
+            size: Size::Light,
+            ..self
+        }
+    }
+
+    /// Compares all groups with the library, and hands each on when it is done.
+    pub fn library(&self, library: &dyn Library, done: &mut dyn FnMut(Group)) {
+        let mut comparison = Comparison::new(library, self.exact, self.trace);
+        for (name, work) in GROUPS {
+            work(&mut comparison, self);
+            let Tally {
+                cases,
+                differences,
+                smallest,
+            } = comparison.take_tally();
+            done(Group {
+                text: format!("{name}: {cases} calls compared, {differences} differ"),
+                passed: differences == 0 && cases > 0,
+                difference: smallest.map(|found| format!("{}\n    {}", found.text, found.case)),
+            });
+        }
+    }
+
+    /// Compares the drive program on all files.
+    pub fn program(&self, program: &dyn Program, done: &mut dyn FnMut(Group)) {
+        let tally = compare_programs(program, self.seed, self.size);
+        let (files, records, differences) = (tally.files, tally.records, tally.differences);
+        done(Group {
+            text: format!(
+                "records: {records} records in {files} files compared, {differences} differ"
+            ),
+            passed: differences == 0 && files > 0,
+            difference: tally.smallest.map(|file| show(program, &file)),
+        });
+    }
+
+    /// The comparison can fail: it finds nothing against the model itself, and tells every flaw
+    /// and every impostor apart.
+    pub fn self_check(&self, done: &mut dyn FnMut(Group)) {
+        let plan = self.light();
+        let nothing = plan.differences(&Model(Flaw::None));
+        done(told("the model itself", nothing, nothing == 0));
+        for flaw in Flaw::ALL {
+            let found = plan.differences(&Model(flaw));
+            done(told(&format!("{flaw:?}"), found, found > 0));
+        }
+        for impostor in Impostor::ALL {
+            let found = plan.differences(&impostor);
+            done(told(&format!("{impostor:?}"), found, found > 0));
+        }
+        for flaw in Flaw::ALL {
+            let found = compare_programs(&Model(flaw), plan.seed, plan.size).differences;
+            let name = format!("{flaw:?} in the drive program");
+            done(told(&name, found, (found > 0) == shows(flaw)));
+        }
+    }
+
+    /// How many cases of all groups differ.
+    fn differences(&self, library: &dyn Library) -> u64 {
+        let mut comparison = Comparison::new(library, self.exact, self.trace);
+        for (_, work) in GROUPS {
+            work(&mut comparison, self);
+        }
+        comparison.take_tally().differences
+    }
+
+    fn rounds(&self, light: usize, default: usize) -> usize {
+        match self.size {
+            Size::Light => light,
+            _ => default,
+        }
+    }
+}
+
+/// What the self-check found of one library or program.
+fn told(name: &str, differences: u64, passed: bool) -> Group {
+    Group {
+        text: format!("self-check, {name}: {differences} differ"),
+        passed,
+        difference: None,
+    }
+}
+
+/// Whether the drive program's lines can show the flaw: its sheet is never refused, and a line
+/// shows no index.
+fn shows(flaw: Flaw) -> bool {
+    ![
+        Flaw::LastBadLevel,
+        Flaw::SpareIgnored,
+        Flaw::BitAfterLevel,
+        Flaw::DigitsLowFirst,
+    ]
+    .contains(&flaw)
+}
