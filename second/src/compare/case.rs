@@ -94,6 +94,7 @@ const CALLS: [(Call, &str); 4] = [
 ];
 
 /// `change 0,2,1,4,2,0,0 bit 1 places 2 sheet 1,0*3`: a level and how often it stands there.
+/// A list of nothing is `-`.
 impl Display for Case {
     fn fmt(&self, f: &mut Formatter) -> fmt::Result {
         let (_, call) = CALLS[self.call as usize];
@@ -106,7 +107,7 @@ impl Display for Case {
             })
             .collect();
         let (bit, places) = (self.bit, self.places);
-        let (numbers, levels) = (numbers.join(","), levels.join(","));
+        let (numbers, levels) = (list(&numbers), list(&levels));
         write!(
             f,
             "{call} {numbers} bit {bit} places {places} sheet {levels}"
@@ -114,34 +115,39 @@ impl Display for Case {
     }
 }
 
+/// The words of a list, or `-`.
+fn list(words: &[String]) -> String {
+    match words {
+        [] => String::from("-"),
+        _ => words.join(","),
+    }
+}
+
+/// The words of a list's text.
+fn words(list: &str) -> impl Iterator<Item = &str> {
+    list.split(',').filter(|&word| word != "-")
+}
+
 impl FromStr for Case {
     type Err = String;
 
     fn from_str(text: &str) -> Result<Case, String> {
         let wrong = || format!("not a case: {text}");
-        let words: Vec<&str> = text.split(' ').collect();
-        let [call, numbers, "bit", bit, "places", places, "sheet", levels] = words[..] else {
+        let parts: Vec<&str> = text.split(' ').collect();
+        let [call, numbers, "bit", bit, "places", places, "sheet", levels] = parts[..] else {
             return Err(wrong());
         };
         let number = |word: &str| word.parse::<usize>().map_err(|_| wrong());
-        let list = |words: &'_ str| -> Vec<String> {
-            let words = words.split(',').filter(|word| !word.is_empty());
-            words.map(String::from).collect()
-        };
         let mut sheet = Vec::new();
-        for word in list(levels) {
-            let (level, times) = word.split_once('*').unwrap_or((&word, "1"));
+        for word in words(levels) {
+            let (level, times) = word.split_once('*').unwrap_or((word, "1"));
             let level = u8::try_from(number(level)?).map_err(|_| wrong())?;
             sheet.extend(std::iter::repeat_n(level, number(times)?));
         }
-        let numbers = list(numbers).into_iter().map(|word| number(&word));
+        let named = CALLS.iter().find(|named| named.1 == call);
         Ok(Case {
-            call: CALLS
-                .iter()
-                .find(|named| named.1 == call)
-                .ok_or_else(wrong)?
-                .0,
-            numbers: numbers.collect::<Result<_, _>>()?,
+            call: named.ok_or_else(wrong)?.0,
+            numbers: words(numbers).map(number).collect::<Result<_, _>>()?,
             sheet,
             bit: number(bit)?,
             places: number(places)?,
@@ -164,7 +170,7 @@ mod tests {
         ] {
             assert_eq!(case.to_string().parse(), Ok(case));
         }
-        let forged = "change  bit 1 places 0 sheet 1,0*3"
+        let forged = "change - bit 1 places 0 sheet 1,0*3"
             .parse::<Case>()
             .unwrap();
         assert_eq!((forged.numbers.len(), forged.sheet), (0, vec![1, 0, 0, 0]));

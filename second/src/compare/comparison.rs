@@ -19,6 +19,8 @@ pub struct Comparison<'a> {
 pub struct Tally {
     /// Cases compared.
     pub cases: u64,
+    /// How many of them the model answers with each number.
+    pub answers: [u64; 9],
     /// Cases that differed, or that broke a count of the rules.
     pub differences: u64,
     /// The smallest of them.
@@ -56,6 +58,7 @@ impl<'a> Comparison<'a> {
         }
         self.tally.cases += 1;
         let (expected, found) = self.run(case);
+        self.tally.answers[expected.answer] += 1;
         if found == expected && self.found.difference(&self.expected).is_none() {
             return Some(found);
         }

@@ -17,7 +17,8 @@ struct Writer<'a> {
 /// A file of so many records, on sheets of at most so many cells, and perhaps a cut last one.
 /// One record in so many is spoiled or erases a new sheet.
 pub fn some_file(random: &mut Random, records: usize, most: usize, one_in: usize) -> Vec<u8> {
-    let cut = random.one_of(&[0, 0, random.clone().between(1, 7)]);
+    let any_cut = random.between(1, 7);
+    let cut = random.one_of(&[0, 0, any_cut]);
     let mut writer = Writer {
         random,
         most,

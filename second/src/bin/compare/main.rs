@@ -124,12 +124,14 @@ const MISSING: &str = "built without the compiled library: build with HARPGINGER
 struct Score {
     passed: u64,
     failed: u64,
+    /// When the last group was done.
     since: Instant,
 }
 
 impl Score {
     fn count(&mut self, group: Group) {
         let seconds = self.since.elapsed().as_secs_f32();
+        self.since = Instant::now();
         let verdict = if group.passed { "ok  " } else { "FAIL" };
         println!("{verdict} {} ({seconds:.1} s)", group.text);
         if let Some(difference) = group.difference {
