@@ -112,6 +112,11 @@ impl<'a> Comparison<'a> {
     }
 
     fn text(&self, expected: Reply, found: Reply) -> String {
+        match found {
+            Reply::OUTSIDE => return String::from("the call wrote where nothing was lent for it"),
+            Reply::ENDED => return String::from("the call ended the process that serves it"),
+            _ => {}
+        }
         let place = self.found.difference(&self.expected);
         format!(
             "answer {} value {}, expected answer {} value {}; {}",

@@ -11,6 +11,20 @@ pub struct Reply {
     pub value: usize,
 }
 
+impl Reply {
+    /// What stands for a call that wrote where nothing was lent for writing, seen by the process
+    /// that serves it.
+    pub const OUTSIDE: Reply = Reply {
+        answer: 1000,
+        value: 0,
+    };
+    /// What stands for a call that ended the process that serves it.
+    pub const ENDED: Reply = Reply {
+        answer: 1001,
+        value: 0,
+    };
+}
+
 /// Four calls over lent slices. A record is 7 numbers: kind, k, L, n, m, s and w.
 pub trait Library {
     /// Accepts the kind, k, L and n, or refuses them, and writes the record.

@@ -1,7 +1,8 @@
 //! The comparison of this program with the compiled library and with the compiled drive program.
 //!
-//! A library is anything with the four calls ([`Library`]): the compiled one, the model itself,
-//! the model with one flaw, or an impostor. Each [`Case`] is run on the model and on the library,
+//! A library is anything with the four calls ([`Library`]): the compiled one (linked, or served by
+//! another process where this machine's processor is not the archive's), the model itself, the
+//! model with one flaw, or an impostor. Each [`Case`] is run on the model and on the library,
 //! and everything is compared: the answer, its value, every place of the record, every cell after,
 //! every output place after, and guards on both sides of each slice that was lent.
 //!
@@ -29,6 +30,7 @@ mod programs;
 mod records;
 mod refusals;
 mod runs;
+mod served;
 mod tiny;
 
 pub use case::{Call, Case};
@@ -38,3 +40,4 @@ pub use library::{Library, Model, Reply};
 pub use plan::{Group, Plan, Size};
 pub use programs::{compare_programs, Compiled, FileTally, Program};
 pub use records::some_file;
+pub use served::Served;

@@ -25,6 +25,8 @@ pub struct Plan {
     pub seed: u64,
     /// Random calls.
     pub calls: u64,
+    /// Small files of records.
+    pub files: usize,
     /// How much is run.
     pub size: Size,
     /// Lend slices without guards, each in memory of its own.
@@ -69,6 +71,7 @@ impl Plan {
     pub fn light(self) -> Plan {
         Plan {
             calls: self.calls.min(10_000),
+            files: self.files.min(300),
             size: Size::Light,
             ..self
         }
@@ -85,7 +88,7 @@ impl Plan {
 
     /// Compares the drive program on all files.
     pub fn program(&self, program: &dyn Program, done: &mut dyn FnMut(Group)) {
-        let tally = compare_programs(program, self.seed, self.size);
+        let tally = compare_programs(program, self.seed, self.files, self.size);
         let (files, records, differences) = (tally.files, tally.records, tally.differences);
         done(Group {
             text: format!(
@@ -111,7 +114,8 @@ impl Plan {
             done(told(&format!("{impostor:?}"), found, found > 0));
         }
         for flaw in Flaw::ALL.into_iter().filter(|&flaw| shows(flaw)) {
-            let found = compare_programs(&Model(flaw), plan.seed, plan.size).differences;
+            let found =
+                compare_programs(&Model(flaw), plan.seed, plan.files, plan.size).differences;
             let name = format!("{flaw:?} in the drive program");
             done(told(&name, found, found > 0));
         }

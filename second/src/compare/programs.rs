@@ -5,9 +5,8 @@ use super::plan::Size;
 use super::records::{fixed_files, long_run, some_file};
 use crate::drive::drive;
 use crate::random::Random;
-use crate::{Flaw, Settings};
+use crate::Flaw;
 use std::io::{Read, Write};
-use std::path::PathBuf;
 use std::process::{ChildStdin, Command, Stdio};
 
 /// A drive program: a file of records in, lines out.
@@ -27,8 +26,16 @@ impl Program for Model {
 
 /// The compiled drive program.
 pub struct Compiled {
-    /// Where it is.
-    pub path: PathBuf,
+    /// The command that runs it and its words, with spaces between.
+    pub line: String,
+}
+
+/// A command and its words, with spaces between.
+pub(super) fn command(line: &str) -> Command {
+    let mut words = line.split_whitespace();
+    let mut command = Command::new(words.next().unwrap_or_default());
+    command.args(words);
+    command
 }
 
 impl Program for Compiled {
@@ -39,7 +46,7 @@ impl Program for Compiled {
 
 impl Compiled {
     fn run(&self, file: &[u8]) -> std::io::Result<Result<Vec<u8>, String>> {
-        let mut child = Command::new(&self.path)
+        let mut child = command(&self.line)
             .stdin(Stdio::piped())
             .stdout(Stdio::piped())
             .spawn()?;
@@ -85,44 +92,47 @@ pub struct FileTally {
     pub smallest: Option<Vec<u8>>,
 }
 
-/// Compares the program with the second program on files of this size and smaller.
-pub fn compare_programs(program: &dyn Program, seed: u64, size: Size) -> FileTally {
+/// Compares the program with the second program: the fixed files, so many small ones, and long
+/// ones of this size.
+pub fn compare_programs(program: &dyn Program, seed: u64, files: usize, size: Size) -> FileTally {
     let mut random = Random::new(seed);
     let mut tally = FileTally::default();
     for file in fixed_files() {
         tally.compare(program, file);
     }
-    let (files, long, largest) = match size {
-        Size::Light => (300, 3_000, 40),
-        Size::Default => (3_000, 100_000, 4_000),
-        Size::Long => (20_000, 1_000_000, 50_000),
-    };
     for _ in 0..files {
         let records = random.below(40);
-        let file = some_file(&mut random, records, 700, 4);
-        tally.compare(program, file);
+        tally.compare(program, some_file(&mut random, records, 700, 4));
     }
-    for asked in [
-        [0, 2, 1, 9],
-        [0, 8, 3, 128],
-        [1, 4, 2, 30],
-        [1, 8, 1, 200],
-        [1, 16, 3, 556],
-    ] {
-        let settings = Settings::accept(asked[0], asked[1], asked[2], asked[3]).1;
-        tally.compare(program, long_run(&mut random, &settings, long));
+    let (long, largest) = match size {
+        Size::Light => (3_000, 40),
+        Size::Default => (100_000, 4_000),
+        Size::Long => (1_000_000, 50_000),
+    };
+    for asked in SMALL {
+        tally.compare(program, long_run(&mut random, asked, long));
+    }
+    for asked in LARGE {
+        tally.compare(program, long_run(&mut random, asked, largest));
     }
     tally.compare(program, some_file(&mut random, long, 700, 50));
     tally.compare(program, some_file(&mut random, largest, 16_384, 50));
-    for asked in [[0, 64, 1, 16_384], [1, 64, 1, 16_384]] {
-        let settings = Settings::accept(asked[0], asked[1], asked[2], asked[3]).1;
-        tally.compare(program, long_run(&mut random, &settings, largest));
-    }
     if let Some(file) = tally.smallest.take() {
         tally.smallest = Some(shrink(program, file));
     }
     tally
 }
+
+/// Settings of long runs: the kind, k, L and n.
+const SMALL: [[u64; 4]; 5] = [
+    [0, 2, 1, 9],
+    [0, 8, 3, 128],
+    [1, 4, 2, 30],
+    [1, 8, 1, 200],
+    [1, 16, 3, 556],
+];
+
+const LARGE: [[u64; 4]; 2] = [[0, 64, 1, 16_384], [1, 64, 1, 16_384]];
 
 impl FileTally {
     fn compare(&mut self, program: &dyn Program, file: Vec<u8>) {

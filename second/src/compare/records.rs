@@ -176,8 +176,9 @@ fn each_byte(good: [u8; 5]) -> Vec<u8> {
 }
 
 /// Changes to Erase and a new sheet after it, over and over, on these settings.
-pub fn long_run(random: &mut Random, settings: &Settings, records: usize) -> Vec<u8> {
-    let asked = bytes(settings);
+pub fn long_run(random: &mut Random, asked: [u64; 4], records: usize) -> Vec<u8> {
+    let settings = Settings::accept(asked[0], asked[1], asked[2], asked[3]).1;
+    let asked = bytes(&settings);
     let push = |file: &mut Vec<u8>, operation: u8, bit: u8| {
         file.push(operation);
         file.extend(asked);
@@ -189,7 +190,7 @@ pub fn long_run(random: &mut Random, settings: &Settings, records: usize) -> Vec
     while file.len() < 8 * records {
         let bit = random.below(settings.k);
         push(&mut file, 2, bit as u8);
-        if crate::change(settings, &mut sheet, bit).number() == 7 {
+        if crate::change(&settings, &mut sheet, bit).number() == 7 {
             push(&mut file, 3, 0);
             push(&mut file, 1, 0);
             sheet.fill(0);

@@ -1,14 +1,18 @@
 //! Compares the second program with the compiled library and with the compiled drive program.
 //!
 //! ```text
-//! compare [--seed N] [--calls N] [--program PATH] [--light] [--exact] [--trace] [--itself]
+//! compare [--seed N] [--calls N] [--files N] [--program COMMAND] [--served COMMAND | --itself]
+//!         [--light] [--exact] [--trace]
 //! compare --replay 'CASE'
 //! compare --records N [--seed N]
 //! ```
 //!
-//! - `--seed N`: other random inputs; `--calls N`: so many random calls. From 1,000,000 calls on,
-//!   the longest runs and more files are compared too.
-//! - `--program PATH`, or HARPGINGER_PROGRAM: the compiled drive program, compared too.
+//! - `--seed N`: other random inputs; `--calls N`: so many random calls; `--files N`: so many small
+//!   files of records. From 1,000,000 calls on, the longest runs and files are compared too.
+//! - `--program COMMAND`, or HARPGINGER_PROGRAM: runs the compiled drive program, which is compared
+//!   too. A command is one word with spaces between its own words.
+//! - `--served COMMAND`: runs `serve.c` linked with the archive, in the linked library's place: for
+//!   a machine whose processor is not the archive's, with an emulator in the command.
 //! - `--light`: a part of each group, and no self-check. `--exact`: slices without guards, each in
 //!   memory of its own, for tools that watch memory. `--trace`: prints each case before it is run.
 //! - `--itself`: the model takes the compiled library's place.
@@ -22,7 +26,9 @@
 #[cfg(harpginger_archive)]
 mod foreign;
 
-use second::compare::{some_file, Case, Comparison, Compiled, Group, Library, Model, Plan, Size};
+use second::compare::{
+    some_file, Case, Comparison, Compiled, Group, Library, Model, Plan, Served, Size,
+};
 use second::random::Random;
 use second::Flaw;
 use std::io::Write;
@@ -33,6 +39,7 @@ use std::time::Instant;
 struct Asked {
     plan: Plan,
     program: Option<String>,
+    served: Option<String>,
     itself: bool,
     replay: Option<String>,
     records: Option<usize>,
@@ -65,11 +72,13 @@ fn asked(mut words: impl Iterator<Item = String>) -> Result<Asked, String> {
         plan: Plan {
             seed: 1,
             calls: 300_000,
+            files: 3_000,
             size: Size::Default,
             exact: false,
             trace: false,
         },
         program: std::env::var("HARPGINGER_PROGRAM").ok(),
+        served: None,
         itself: false,
         replay: None,
         records: None,
@@ -84,8 +93,10 @@ fn asked(mut words: impl Iterator<Item = String>) -> Result<Asked, String> {
         match &word[..] {
             "--seed" => asked.plan.seed = number()?,
             "--calls" => asked.plan.calls = number()?,
+            "--files" => asked.plan.files = number()? as usize,
             "--records" => asked.records = Some(number()? as usize),
             "--program" => asked.program = Some(text()?),
+            "--served" => asked.served = Some(text()?),
             "--replay" => asked.replay = Some(text()?),
             "--light" => asked.plan.size = Size::Light,
             "--exact" => asked.plan.exact = true,
@@ -101,24 +112,28 @@ fn asked(mut words: impl Iterator<Item = String>) -> Result<Asked, String> {
 }
 
 #[cfg(harpginger_archive)]
-fn foreign() -> Option<&'static dyn Library> {
-    Some(&foreign::Foreign)
+fn linked() -> Result<Box<dyn Library>, String> {
+    Ok(Box::new(foreign::Foreign))
 }
 
 #[cfg(not(harpginger_archive))]
-fn foreign() -> Option<&'static dyn Library> {
-    None
+fn linked() -> Result<Box<dyn Library>, String> {
+    Err(String::from(
+        "built without the compiled library: build with HARPGINGER_ARCHIVE, or serve it",
+    ))
 }
 
-/// The library to compare with, and its name.
-fn library(asked: &Asked) -> Option<(&'static dyn Library, &'static str)> {
-    match asked.itself {
-        true => Some((&Model(Flaw::None), "the model itself")),
-        false => Some((foreign()?, "the compiled library")),
+/// The library to compare with.
+fn library(asked: &Asked) -> Result<Box<dyn Library>, String> {
+    match &asked.served {
+        _ if asked.itself => Ok(Box::new(Model(Flaw::None))),
+        Some(line) => match Served::start(line) {
+            Ok(served) => Ok(Box::new(served)),
+            Err(error) => Err(format!("{line}: {error}")),
+        },
+        None => linked(),
     }
 }
-
-const MISSING: &str = "built without the compiled library: build with HARPGINGER_ARCHIVE";
 
 /// Counts of the groups so far.
 struct Score {
@@ -153,20 +168,25 @@ fn compare(asked: &Asked) -> bool {
     };
     println!("seed {}, {} random calls", plan.seed, plan.calls);
     match library(asked) {
-        Some((library, name)) => {
+        Ok(library) => {
+            let name = if asked.itself {
+                "itself"
+            } else {
+                "the compiled library"
+            };
             println!("the second program with {name}:");
-            plan.library(library, &mut |group| score.count(group));
+            plan.library(&*library, &mut |group| score.count(group));
         }
-        None => {
-            println!("FAIL {MISSING}");
+        Err(missing) => {
+            println!("FAIL {missing}");
             score.failed += 1;
         }
     }
     match &asked.program {
-        Some(path) => {
-            println!("the second program with the drive program {path}:");
-            let path = path.into();
-            plan.program(&Compiled { path }, &mut |group| score.count(group));
+        Some(line) => {
+            println!("the second program with the drive program:");
+            let line = line.clone();
+            plan.program(&Compiled { line }, &mut |group| score.count(group));
         }
         None => println!("no drive program is compared: none was named"),
     }
@@ -179,18 +199,14 @@ fn compare(asked: &Asked) -> bool {
 }
 
 fn replay(asked: &Asked, text: &str) -> bool {
-    let case: Case = match text.parse() {
-        Ok(case) => case,
-        Err(wrong) => {
+    let (case, library) = match (text.parse::<Case>(), library(asked)) {
+        (Ok(case), Ok(library)) => (case, library),
+        (Err(wrong), _) | (_, Err(wrong)) => {
             println!("{wrong}");
             return false;
         }
     };
-    let Some((library, _)) = library(asked) else {
-        println!("{MISSING}");
-        return false;
-    };
-    let (same, text) = Comparison::new(library, asked.plan.exact, true).replay(&case);
+    let (same, text) = Comparison::new(&*library, asked.plan.exact, true).replay(&case);
     println!("{text}");
     same
 }
