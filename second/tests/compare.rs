@@ -5,8 +5,8 @@ use second::Flaw;
 
 const PLAN: Plan = Plan {
     seed: 7,
-    calls: 5_000,
-    files: 100,
+    calls: 3_000,
+    files: 60,
     size: Size::Light,
     exact: false,
     trace: false,

@@ -31,6 +31,7 @@ mod records;
 mod refusals;
 mod runs;
 mod served;
+mod settings;
 mod tiny;
 
 pub use case::{Call, Case};

@@ -1,4 +1,4 @@
-//! The numbers of the rules, each with what the rules say of it; and settings around the limits.
+//! The numbers of the rules, each with what the rules say of it.
 
 use super::case::{Call, Case};
 use super::comparison::Comparison;
@@ -131,64 +131,4 @@ fn staged_of_28(comparison: &mut Comparison) {
     }
     case.sheet = cells(steps[0].2);
     says(comparison, &case, 0, 4);
-}
-
-/// Every kind, k and L around the limits, with n around its edges.
-pub fn settings(comparison: &mut Comparison) {
-    for kind in 0..3 {
-        for k in 0..=66 {
-            for top in (0..=20).chain([62, 63, 64, 65, 66, 127, 128, 254, 255, 256, 257]) {
-                for n in edges(kind, k, top) {
-                    comparison.compare(&Case::settings([kind, k, top, n]));
-                }
-            }
-        }
-    }
-    let high = 1 << 32;
-    let numbers = [
-        0,
-        1,
-        2,
-        3,
-        4,
-        64,
-        255,
-        16_384,
-        16_385,
-        high,
-        high + 4,
-        1 << 63,
-        usize::MAX,
-    ];
-    for (kind, k) in numbers
-        .into_iter()
-        .flat_map(|kind| numbers.map(|k| (kind, k)))
-    {
-        for (top, n) in numbers
-            .into_iter()
-            .flat_map(|top| numbers.map(|n| (top, n)))
-        {
-            comparison.compare(&Case::settings([kind, k, top, n]));
-        }
-    }
-    for asked in [[0, 4, 2, 16], [1, 4, 2, 28], [0, 2, 1, 3]] {
-        for places in 0..20 {
-            let case = Case::settings(asked);
-            comparison.compare(&Case { places, ..case });
-        }
-    }
-}
-
-/// The least n that is accepted and those around it, those with one more block, and the most.
-fn edges(kind: usize, k: usize, top: usize) -> Vec<usize> {
-    let mut edges = vec![0, 1, 16_383, 16_384, 16_385, usize::MAX];
-    let widest = accept([kind, k, top, 16_384].map(|number| number as u64));
-    let least = match widest.k {
-        0 => k * k,
-        _ => k * k + widest.index_cells(),
-    };
-    for more in [0, k] {
-        edges.extend((least + more).saturating_sub(1)..=least + more + 1);
-    }
-    edges
 }

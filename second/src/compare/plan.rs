@@ -4,7 +4,7 @@ use super::comparison::{Comparison, Difference, Tally};
 use super::impostor::Impostor;
 use super::library::{Library, Model};
 use super::programs::{compare_programs, show, Program};
-use super::{calls, forged, numbers, refusals, runs, tiny};
+use super::{calls, forged, numbers, refusals, runs, settings, tiny};
 use crate::Flaw;
 
 /// How much is run.
@@ -50,14 +50,16 @@ type Cases = (&'static str, fn(&mut Comparison, &Plan));
 
 const GROUPS: [Cases; 7] = [
     ("numbers", |comparison, _| numbers::numbers(comparison)),
-    ("settings", |comparison, _| numbers::settings(comparison)),
+    ("settings", |comparison, plan| {
+        settings::settings(comparison, plan.size)
+    }),
     ("forged", |comparison, plan| {
         forged::forged(comparison, plan.seed, plan.rounds(4, 60));
     }),
     ("refusals", |comparison, plan| {
         refusals::refusals(comparison, plan.seed, plan.rounds(6, 60));
     }),
-    ("tiny", |comparison, _| tiny::tiny(comparison)),
+    ("tiny", |comparison, plan| tiny::tiny(comparison, plan.size)),
     ("calls", |comparison, plan| {
         calls::calls(comparison, plan.seed, plan.calls);
     }),

@@ -67,22 +67,28 @@ fn main() -> ExitCode {
     }
 }
 
+impl Default for Asked {
+    fn default() -> Asked {
+        Asked {
+            plan: Plan {
+                seed: 1,
+                calls: 300_000,
+                files: 3_000,
+                size: Size::Default,
+                exact: false,
+                trace: false,
+            },
+            program: std::env::var("HARPGINGER_PROGRAM").ok(),
+            served: None,
+            itself: false,
+            replay: None,
+            records: None,
+        }
+    }
+}
+
 fn asked(mut words: impl Iterator<Item = String>) -> Result<Asked, String> {
-    let mut asked = Asked {
-        plan: Plan {
-            seed: 1,
-            calls: 300_000,
-            files: 3_000,
-            size: Size::Default,
-            exact: false,
-            trace: false,
-        },
-        program: std::env::var("HARPGINGER_PROGRAM").ok(),
-        served: None,
-        itself: false,
-        replay: None,
-        records: None,
-    };
+    let mut asked = Asked::default();
     while let Some(word) = words.next() {
         let mut text = || words.next().ok_or(format!("{word} needs a word after it"));
         let mut number = || {
