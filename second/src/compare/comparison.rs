@@ -62,6 +62,10 @@ impl<'a> Comparison<'a> {
         if found == expected && self.found.difference(&self.expected).is_none() {
             return Some(found);
         }
+        if found == Reply::NOT_MADE {
+            self.tally.differences += 1;
+            return None;
+        }
         let text = self.text(expected, found);
         self.tally.differ(case, text);
         None
@@ -98,11 +102,12 @@ impl<'a> Comparison<'a> {
         tally
     }
 
-    /// The case on both sides, as text.
+    /// Whether the case differs, and what both sides left, as text.
     pub fn replay(&mut self, case: &Case) -> (bool, String) {
         let (expected, found) = self.run(case);
-        let same = found == expected && self.found.difference(&self.expected).is_none();
-        (same, self.text(expected, found))
+        let alike = found == expected && self.found.difference(&self.expected).is_none();
+        let differs = !alike && found != Reply::NOT_MADE;
+        (differs, self.text(expected, found))
     }
 
     fn run(&mut self, case: &Case) -> (Reply, Reply) {
@@ -131,7 +136,7 @@ impl<'a> Comparison<'a> {
     /// Sets cells to 0, then lowers them to 1, as long as the case still differs.
     fn shrink(&mut self, smallest: &mut Difference) {
         let mut case = smallest.case.clone();
-        if case.call == Call::Settings || self.replay(&case).0 {
+        if case.call == Call::Settings || !self.replay(&case).0 {
             return;
         }
         let mut attempts = 0;
@@ -146,8 +151,9 @@ impl<'a> Comparison<'a> {
                 length /= 2;
             }
         }
-        smallest.text = self.replay(&case).1;
-        smallest.case = case;
+        if let (true, text) = self.replay(&case) {
+            *smallest = Difference { case, text };
+        }
     }
 
     /// Lowers these cells to the level, and takes that back if the case no longer differs.
@@ -159,7 +165,7 @@ impl<'a> Comparison<'a> {
         for cell in &mut case.sheet[cells.clone()] {
             *cell = level.min(*cell);
         }
-        if self.replay(case).0 {
+        if !self.replay(case).0 {
             case.sheet[cells].copy_from_slice(&before);
         }
     }

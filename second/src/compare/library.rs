@@ -23,6 +23,11 @@ impl Reply {
         answer: 1001,
         value: 0,
     };
+    /// What stands for a call that wasn't made: the process that serves it ended too often.
+    pub const NOT_MADE: Reply = Reply {
+        answer: 1002,
+        value: 0,
+    };
 }
 
 /// Four calls over lent slices. A record is 7 numbers: kind, k, L, n, m, s and w.

@@ -22,7 +22,7 @@ struct Process {
 }
 
 /// How often a process that a call ended is started anew.
-const STARTS: u32 = 100;
+const STARTS: u32 = 300;
 
 /// One call's slices, each to be written back.
 struct Slices<'a> {
@@ -39,17 +39,18 @@ impl Served {
         Ok(Served { line, process })
     }
 
-    /// Makes one call there. A process that a call ended is started anew.
+    /// Makes one call there. A process that a call ended is started anew, though not for ever.
     fn call(&self, call: Call, bit: usize, asked: [usize; 4], slices: Slices) -> Reply {
         let (process, starts) = &mut *self.process.borrow_mut();
+        if *starts > STARTS {
+            return Reply::NOT_MADE;
+        }
         if let Ok(reply) = process.call(call, bit, asked, slices) {
             return reply;
         }
-        if *starts < STARTS {
-            if let Ok(anew) = Process::start(&self.line) {
-                *process = anew;
-                *starts += 1;
-            }
+        match Process::start(&self.line) {
+            Ok(anew) => (*process, *starts) = (anew, *starts + 1),
+            Err(_) => *starts = STARTS + 1,
         }
         Reply::ENDED
     }

@@ -19,6 +19,17 @@
 //! - `--replay 'CASE'`: runs one case, as a difference prints it.
 //! - `--records N`: writes a file of N records, to feed the drive program by hand.
 //!
+//! From this package's folder, the build, the default run, a longer one, and one under a tool that
+//! watches memory:
+//!
+//! ```text
+//! HARPGINGER_ARCHIVE=../target/staticlib cargo build --offline --release
+//! target/release/compare --program ../target/bin/drive
+//! target/release/compare --program ../target/bin/drive --calls 5000000
+//! valgrind --error-exitcode=9 target/release/compare --light --exact --calls 2000
+//! target/release/compare --records 2000 | valgrind --error-exitcode=9 ../target/bin/drive
+//! ```
+//!
 //! The compiled library is linked where HARPGINGER_ARCHIVE names the folder of libcapi.a while this
 //! is built. The last line counts each group and each part of the self-check as one; the exit
 //! status is 0 only if none failed.
@@ -212,9 +223,9 @@ fn replay(asked: &Asked, text: &str) -> bool {
             return false;
         }
     };
-    let (same, text) = Comparison::new(&*library, asked.plan.exact, true).replay(&case);
+    let (differs, text) = Comparison::new(&*library, asked.plan.exact, true).replay(&case);
     println!("{text}");
-    same
+    !differs
 }
 
 fn write_records(seed: u64, records: usize) -> bool {
