@@ -1,7 +1,7 @@
 /* Serves the compiled library to a comparison that cannot link it: on a machine whose processor
    is not the archive's. Linked with libcapi.a; reads calls on standard input and writes what each
    left behind on standard output, until the input ends. It needs no header, and of the C library
-   read and write alone. All numbers are of 64 bits, low byte first.
+   read, write, memcpy and memcmp alone. All numbers are of 64 bits, low byte first.
 
    A call: which (0 settings, 1 erase, 2 read, 3 change), record places, cells, output places, bit,
    and the kind, k, L and n of settings; then the record, the sheet and the output, as lent.
@@ -13,6 +13,8 @@ typedef unsigned char byte;
 
 long read(int, void *, size);
 long write(int, const void *, size);
+void *memcpy(void *, const void *, size);
+int memcmp(const void *, const void *, size);
 
 size harpginger_settings(size, size, size, size, size *, size, size *);
 size harpginger_erase(const size *, size, byte *, size, size *);
@@ -55,11 +57,6 @@ static int give(const byte *from, size count) {
     return 1;
 }
 
-static void copy(volatile byte *to, const byte *from, size count) {
-    size i;
-    for (i = 0; i < count; i++) to[i] = from[i];
-}
-
 /* Takes a slice of this length and sets guards around it. */
 static int lend(struct lent *lent, size length) {
     volatile byte *area = lent->area;
@@ -83,13 +80,6 @@ static int guarded(const struct lent *lent) {
     return 1;
 }
 
-static int same(const byte *left, const byte *right, size count) {
-    size i;
-    for (i = 0; i < count; i++)
-        if (left[i] != right[i]) return 0;
-    return 1;
-}
-
 static size call(const size *asked, size *value) {
     size *record = record_area + GUARD / 8;
     byte *sheet = lents[1].area + lents[1].first, *output = lents[2].area + lents[2].first;
@@ -108,16 +98,16 @@ int main(void) {
         if (!lend(&lents[0], 8 * asked[1]) || !lend(&lents[1], asked[2]) || !lend(&lents[2], asked[3])) return 1;
         read_only[0] = asked[0] == 0 ? 0 : lents[0].length;
         read_only[1] = asked[0] == 2 ? lents[1].length : 0;
-        for (i = 0; i < 2; i++) copy(kept + i * RECORD, lents[i].area + lents[i].first, read_only[i]);
+        for (i = 0; i < 2; i++) memcpy(kept + i * RECORD, lents[i].area + lents[i].first, read_only[i]);
         left[0] = call(asked, &left[1]);
         for (i = 0; i < 2; i++)
-            if (!same(kept + i * RECORD, lents[i].area + lents[i].first, read_only[i])) left[2] = 0;
+            if (memcmp(kept + i * RECORD, lents[i].area + lents[i].first, read_only[i])) left[2] = 0;
         for (i = 0; i < 3; i++) {
             if (!guarded(&lents[i])) left[2] = 0;
-            copy(message + end, lents[i].area + lents[i].first, lents[i].length);
+            memcpy(message + end, lents[i].area + lents[i].first, lents[i].length);
             end += lents[i].length;
         }
-        copy(message, (const byte *)left, sizeof left);
+        memcpy(message, left, sizeof left);
         if (!give(message, end)) return 1;
     }
     return 0;
