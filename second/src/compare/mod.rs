@@ -13,6 +13,7 @@
 //! - `forged`: records that acceptance never gives;
 //! - `refusals`: every overlap of faults;
 //! - `tiny`: every assignment of levels for the tiniest settings;
+//! - `moves`: changes that go on to a later stage, some over a stage with too few live blocks;
 //! - `calls`: random calls on accepted and damaged sheets of every stage;
 //! - `runs`: from erase to Erase, with the counts of demand 3;
 //! - `records`: the drive program's whole output on files of records.
@@ -24,6 +25,7 @@ mod forged;
 mod impostor;
 mod lent;
 mod library;
+mod moves;
 mod numbers;
 mod plan;
 mod programs;

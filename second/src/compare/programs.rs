@@ -92,8 +92,8 @@ pub struct FileTally {
     pub smallest: Option<Vec<u8>>,
 }
 
-/// Compares the program with the second program: the fixed files, so many small ones, and long
-/// ones of this size.
+/// Compares the program with the second program: the fixed files, so many small ones, a tenth as
+/// many that go through all stages several times, and long ones of this size.
 pub fn compare_programs(program: &dyn Program, seed: u64, files: usize, size: Size) -> FileTally {
     let mut random = Random::new(seed);
     let mut tally = FileTally::default();
@@ -103,6 +103,10 @@ pub fn compare_programs(program: &dyn Program, seed: u64, files: usize, size: Si
     for _ in 0..files {
         let records = random.below(40);
         tally.compare(program, some_file(&mut random, records, 700, 4));
+    }
+    for _ in 0..files.div_ceil(10) {
+        let asked = random.one_of(&STAGED);
+        tally.compare(program, long_run(&mut random, asked, 300));
     }
     let (long, largest) = match size {
         Size::Light => (3_000, 40),
@@ -123,7 +127,16 @@ pub fn compare_programs(program: &dyn Program, seed: u64, files: usize, size: Si
     tally
 }
 
-/// Settings of long runs: the kind, k, L and n.
+/// Settings that take few changes to Erase: the kind, k, L and n.
+const STAGED: [[u64; 4]; 5] = [
+    [1, 4, 1, 36],
+    [1, 4, 2, 30],
+    [1, 8, 1, 180],
+    [1, 8, 2, 150],
+    [1, 16, 1, 706],
+];
+
+/// Settings of long runs.
 const SMALL: [[u64; 4]; 5] = [
     [0, 2, 1, 9],
     [0, 8, 3, 128],
