@@ -6,3 +6,4 @@ pub mod MoveLaws
 pub mod StageLaws
 pub mod ZeroLaws
 pub mod ScanLaws
+pub mod WithinLaws
