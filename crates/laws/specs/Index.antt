@@ -2,12 +2,12 @@
 use mathlib.Core.List.{List, [], _∷_}
 use mathlib.Core.Path.{_∙_, _≡_, ap, ap₂, refl, subst, sym}
 use Prim.Native.Nat.{_%_, _*_, _+_, _/_, _<_, _^_, _≤_, suc, zero, ℕ}
-use native.Mathlib.Nat.{div-add-mod', div-lt-iff-lt-mul, le-of-suc-le-suc, mod-lt, mul-comm, mul-le-mul-right, mul-pos, pow-suc, pow-zero, zero-div, zero-mod}
+use native.Mathlib.Nat.{div-add-mod', div-lt-iff-lt-mul, le-mul-of-pos-right, le-of-suc-le-suc, mod-lt, mul-comm, mul-le-mul-right, mul-pos, pow-suc, pow-zero, zero-div, zero-mod}
 use native.Mathlib.Omega.{arith}
 use lib.Arith.{digits-div, digits-mod}
 use lib.ListN.{length, length-replicate, replicate}
 use Rattle.rules.specs.Batches.{digits, entryCells, entryOf, number}
-use Rattle.rules.specs.Cells.{Low, same?}
+use Rattle.rules.specs.Cells.{Low, same?, sum}
 use Rattle.rules.specs.SearchLaws.{pick-elim, pick-no, pick-yes}
 use Rattle.rules.specs.Stage.{Entry, closed, index}
 
@@ -80,3 +80,24 @@ pub digits-zero : (q w : ℕ) → digits q w 0 ≡ replicate w 0
 unfolding digits
 digits-zero q zero = refl
 digits-zero q (suc w) = ap₂ (λ (x : ℕ) (r : List ℕ). x ∷ r) (zero-div (q ^ w)) (ap (digits q w) (zero-mod (q ^ w)) ∙ digits-zero q w)
+
+-- and only all 0 is 0
+pub number-zero : (q : ℕ) (b : List ℕ) → 0 < q → number q b ≡ 0 → sum b ≡ 0
+unfolding number
+number-zero q [] p e = refl
+number-zero q (x ∷ b) p e =
+    let r : number q b ≡ 0 = omega arith in
+    let z : x * q ^ length b ≡ 0 = omega arith in
+    let y : x ≤ x * q ^ length b = le-mul-of-pos-right x (pow-pos′ q (length b) p) in
+    omega (arith, number-zero q b p r)
+
+same-index : {u v : ℕ} → _≡_ {A = Entry} (index u) (index v) → u ≡ v
+same-index e = cc
+
+-- a free index block has no cell above 0
+pub free-zero : (L w : ℕ) (b : List ℕ) → entryOf L w b ≡ index 0 → sum b ≡ 0
+unfolding entryOf
+free-zero L w b e =
+    pick-elim (λ r. r ≡ index 0 → sum b ≡ 0) (same? b (replicate w L)) _ _
+    (λ q z. absurd (let y : _≡_ {A = ℕ} 0 1 = cc in omega arith))
+    (λ q z. number-zero (suc L) b (omega arith) (same-index z)) e

@@ -16,4 +16,5 @@ pub mod Parity
 pub mod Calls
 pub mod Kinds
 pub mod Splice
+pub mod Put
 pub mod Parts

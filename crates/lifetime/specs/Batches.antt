@@ -4,7 +4,7 @@ use mathlib.Core.Logic.{_≢_, inl, inr}
 use mathlib.Core.Path.{_∙_, _≡_, ap, ap₂, refl, subst, sym}
 use Prim.Native.Nat.{_*_, _+_, _-_, _<_, _^_, _≤_, suc, zero, ℕ}
 use native.Mathlib.Decide.{decLt}
-use native.Mathlib.Nat.{le-mul-of-pos-right, le-refl, mul-le-mul-right, mul-pos, pow-zero, sub-self}
+use native.Mathlib.Nat.{le-refl, mul-le-mul-right, mul-pos, pow-zero, sub-self}
 use native.Mathlib.Omega.{arith}
 use lib.ListN.{drop, drop-of-length-le, length, length-append, length-drop, length-map, length-replicate, replicate, take, take-append-drop}
 use lib.Pow.{pow-pos}
@@ -12,7 +12,7 @@ use lib.Seq.{drop-append-add, drop-at, drop-drop, length-take-le, take-at}
 use Rattle.laws.specs.Block.{rises}
 use Rattle.laws.specs.Chop.{chop-join, chop-sized, join-chop, length-chop, length-join, low-join}
 use Rattle.laws.specs.Cut.{length-block, length-store, low-block, low-store, store-other, store-past, store-rises, store-same}
-use Rattle.laws.specs.Index.{NumberFits, digits-low, digits-zero, entry-stored, length-digits, num-digits, pow-pos′, stored-entry}
+use Rattle.laws.specs.Index.{NumberFits, digits-low, digits-zero, entry-stored, length-digits, num-digits, number-zero, stored-entry}
 use Rattle.laws.specs.Parity.{count-width}
 use Rattle.laws.specs.Lists.{drop-replicate, low-append, low-drop, low-replicate, low-take, rises-append, rises-full, rises-same, rises-zero, sum-append, sum-replicate, take-replicate}
 use Rattle.laws.specs.Stage.{Forth, Sized, Used, close, end, name, same}
@@ -70,15 +70,6 @@ used-sum L w (index (suc u) ∷ es) g p f h =
     omega (arith, sum-append d (join (map (entryCells L w) es)))
 
 -- and a cell above 0 makes a number other than 0, or a full index block
-number-zero : (q : ℕ) (b : List ℕ) → 0 < q → number q b ≡ 0 → sum b ≡ 0
-unfolding number
-number-zero q [] p e = refl
-number-zero q (x ∷ b) p e =
-    let r : number q b ≡ 0 = omega arith in
-    let z : x * q ^ length b ≡ 0 = omega arith in
-    let y : x ≤ x * q ^ length b = le-mul-of-pos-right x (pow-pos′ q (length b) p) in
-    omega (arith, number-zero q b p r)
-
 sum-used : (L w : ℕ) (bs : List (List ℕ)) → Sized w L bs → 0 < sum (join bs) → Used (map (entryOf L w) bs)
 unfolding entryOf
 sum-used L w [] z h = absurd (omega arith)

@@ -14,6 +14,7 @@ use Rattle.rules.specs.Cells.{chop, join, store}
 use Rattle.rules.specs.Stage.{closed, liveWeights, recordAll, recordedEntries}
 use Rattle.rules.specs.Staged.{liveCount, moveTo, parityCount, parityLength}
 use Rattle.moving.specs.Meaning.{batchAfter, moved}
+use Rattle.laws.specs.Parity.{count-width}
 
 -- blocks are cut from their own cells
 chop-take : (w n c : ℕ) (xs : List ℕ) → n * w ≤ c → chop w n (take c xs) ≡ chop w n xs
@@ -22,17 +23,10 @@ chop-take w (suc n) c xs h =
     ap₂ (λ (b : List ℕ) (bs : List (List ℕ)). b ∷ bs) (take-take w c xs (omega arith))
     (ap (chop w n) (drop-take w (c - w) c xs (omega arith)) ∙ chop-take w n (c - w) (drop w xs) (omega arith))
 
--- the parity blocks of a stage are the m blocks cut smaller
-parity-all : (s m d : ℕ) → d < s - 1 → parityCount s m d * parityLength d ≡ m * 2 ^ s
-parity-all s m d h =
-    let e : suc d + (s - 1 - d) ≡ s = omega arith in
-    let q : 2 ^ d * 2 * 2 ^ (s - 1 - d) ≡ 2 ^ s = ap (λ (x : ℕ). x * 2 ^ (s - 1 - d)) (sym (pow-suc 2 d)) ∙ sym (pow-add 2 (suc d) (s - 1 - d)) ∙ ap (λ (x : ℕ). 2 ^ x) e in
-    omega (arith, ap (λ (x : ℕ). m * x) q)
-
 module _ (s m L w d : ℕ) (vs f : List ℕ) (h : d < s - 1) where
   -- the parity blocks are cut from the m blocks' own cells
   own-blocks : chop (parityLength d) (parityCount s m d) (take (m * 2 ^ s) f) ≡ chop (parityLength d) (parityCount s m d) f
-  own-blocks = chop-take (parityLength d) (parityCount s m d) (m * 2 ^ s) f (omega (arith, parity-all s m d h))
+  own-blocks = chop-take (parityLength d) (parityCount s m d) (m * 2 ^ s) f (omega (arith, count-width s m d (omega arith) (omega arith)))
 
   -- as many live blocks as the rules count
   pub live-is : live (parityLength d * L) (chop (parityLength d) (parityCount s m d) f) ≡ liveCount s m L d (take (m * 2 ^ s) f)
@@ -48,7 +42,7 @@ module _ (s m L w d : ℕ) (vs f : List ℕ) (h : d < s - 1) where
       let B : ℕ = batchCells s w in
       let j : ℕ = s - 2 - d in
       let between : drop (parityCount s m d * parityLength d) (take (C + j * B) f) ≡ take (j * B) (drop C f) =
-      ap (λ (x : ℕ). drop x (take (C + j * B) f)) (parity-all s m d h) ∙ drop-take C (j * B) (C + j * B) f refl in
+      ap (λ (x : ℕ). drop x (take (C + j * B) f)) (count-width s m d (omega arith) (omega arith)) ∙ drop-take C (j * B) (C + j * B) f refl in
       let e : C + (j * B + B) ≡ C + j * B + B = omega arith in
       let past : drop (C + j * B + B) f ≡ drop (j * B + B) (drop C f) = sym (drop-drop (j * B + B) C f ∙ ap (λ (x : ℕ). drop x f) e) in
       let whole : List (List ℕ) → List ℕ → List ℕ → List ℕ =

@@ -8,26 +8,13 @@ ghost use lib.ListN.{length, take, drop, replicate};
 ghost use Rattle.laws.specs.Splice.{part, spliced};
 ghost use Rattle.rules.specs.Cells.{sum, Low};
 ghost use Rattle.rules.specs.Search.{pick};
-ghost use Rattle.rules.specs.Stage.{raise, recorded, index, closed};
+ghost use Rattle.rules.specs.Stage.{recorded, index, closed};
 ghost use Rattle.rules.specs.Batches.{entryCells};
 ghost use Rattle.moving.specs.Meaning.{Apart, Roomy, parityCells, recordedAt, liveAt, moved};
 use block::sum_of;
 use staged::fill;
+use staged::raise_one;
 use staged::set_index;
-
-// A block raised by one: its lowest-numbered cell below the top level.
-fn raise_one(b: &mut [u8], top: u8)
-    ensures { λ _. ⌜ now (b .exit) ≡ raise top (now (b .entry)) ⌝ }
-{
-    let mut i: usize = 0;
-    while i < b.len() {
-        if b[i] < top {
-            b[i] += 1;
-            return;
-        }
-        i += 1;
-    }
-}
 
 // A live block of this weight records a value: it is raised by one where its parity differs. The answer is the levels raised.
 fn record_parity(b: &mut [u8], top: u8, weight: usize, value: usize) -> usize

@@ -7,3 +7,4 @@ pub mod StageLaws
 pub mod ZeroLaws
 pub mod ScanLaws
 pub mod ZeroChange
+pub mod WithinLaws

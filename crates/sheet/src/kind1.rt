@@ -60,7 +60,7 @@ fn stage0_bits(settings: Settings, sheet: &[u8]) -> Bits
 }
 
 // A scan of the stage with this many left.
-fn scan_at(settings: Settings, sheet: &[u8], left: usize) -> StageScan
+pub fn scan_at(settings: Settings, sheet: &[u8], left: usize) -> StageScan
     requires { ⌜ StagedFacts settings × Levelled settings (now sheet) × (left < settings .s - 1) ⌝ }
     ensures { λ r. ⌜ ScannedAt settings (now (sheet .entry)) left r ⌝ }
 {
@@ -172,7 +172,7 @@ fn make_move(
 }
 
 // On to a later stage: the move is the change; where no stage has room, Erase.
-fn move_on(
+pub fn move_on(
     settings: Settings,
     sheet: &mut [u8],
     bit: usize,

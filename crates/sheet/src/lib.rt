@@ -2,6 +2,7 @@
 mod kind0;
 mod kind1;
 mod layout;
+mod within;
 
 use block::Level;
 use block::first_above;

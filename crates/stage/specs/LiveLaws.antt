@@ -170,6 +170,13 @@ open-entry-in t (closed ∷ es) h = suc-le-suc (open-entry-in t es h)
 open-entry-in zero (index u ∷ es) h = suc-le-suc zero-le
 open-entry-in (suc t) (index u ∷ es) h = suc-le-suc (open-entry-in t es (le-of-suc-le-suc h))
 
+-- what stands there is the t-th number
+pub open-entry-is : (t : ℕ) (es : List Entry) (z : Entry) → t < length (indexes es) → getD es (openEntry t es) z ≡ index (getD (indexes es) t 0)
+open-entry-is t [] z h = absurd (not-suc-le-zero h)
+open-entry-is t (closed ∷ es) z h = open-entry-is t es z h
+open-entry-is zero (index u ∷ es) z h = refl
+open-entry-is (suc t) (index u ∷ es) z h = open-entry-is t es z (le-of-suc-le-suc h)
+
 -- more index blocks at the end don't move it
 pub open-entry-append : (t : ℕ) (es fs : List Entry) → t < length (indexes es) → openEntry t (es ++ fs) ≡ openEntry t es
 open-entry-append t [] fs h = absurd (not-suc-le-zero h)

@@ -149,7 +149,7 @@ pub record Stays (len count w q L i : ℕ) (cells batch : List ℕ) (j x v : ℕ
   pub batch-after : join (map (entryCells L w) es) ≡ indexed
 
 -- what a place means for the change of bit i: its own block is raised, and its index block to full if that fills it;
--- the first free block takes the bit, raised only if its weight is even; or the change goes on to a later stage, and fewer than k blocks aren't full
+-- the first free block, whose index block is all 0, takes the bit, raised only if its weight is even; or the change goes on to a later stage, and fewer than k blocks aren't full
 pub data PlaceWithin (len count w k L i : ℕ) (cells batch : List ℕ) : StagePlace → Type 0 where
   at-own : (j x v : ℕ) → Stays len count w (2 * (k - 1)) L i cells batch j x v
       (set (chop len count cells) j (raise L (block len cells j)))
@@ -162,6 +162,7 @@ pub data PlaceWithin (len count w k L i : ℕ) (cells batch : List ℕ) : StageP
       (set (entries L w (2 * (k - 1)) batch) x (index (suc i)))
       (pick (ℕ-discrete (v % 2) 0) (store len (take (count * len) cells) j (raise L (block len cells j))) (take (count * len) cells))
       (store w (take (2 * (k - 1) * w) batch) x (digits (suc L) w (suc i)))
+      → sum (block w batch x) ≡ 0
       → PlaceWithin len count w k L i cells batch (Free j x v)
   at-none : changeWithin (len * L) L i (chop len count cells) (entries L w (2 * (k - 1)) batch) ≡ beyond
       → length (liveWeights (len * L) (chop len count cells)) < k

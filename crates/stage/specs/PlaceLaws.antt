@@ -5,10 +5,10 @@ use mathlib.Core.Path.{_≡_, _∙_, ap, ap₂, refl, subst, sym}
 use Prim.Native.Nat.{ℕ, zero, suc, _-_, _*_, _%_, _≤_, _<_}
 use native.Mathlib.Decide.{ℕ-discrete, decLt}
 use native.Mathlib.Omega.{arith}
-use lib.ListN.{drop, getD, length, length-drop, length-map, set, take}
+use lib.ListN.{List·getD-map, drop, getD, length, length-drop, length-map, set, take}
 use lib.Seq.{ext-getD, length-take-le}
 use Rattle.laws.specs.Chop.{join-chop, length-chop}
-use Rattle.laws.specs.Index.{stored-entry}
+use Rattle.laws.specs.Index.{free-zero, stored-entry}
 use Rattle.laws.specs.Lists.{low-drop, low-take}
 use Rattle.laws.specs.Parts.{chop-take, getD-chop, join-set, map-set}
 use Rattle.laws.specs.Stage.{absent-at, names-few, weight-at, weight-none}
@@ -18,7 +18,7 @@ use Rattle.rules.specs.Search.{Found, at, first, nowhere, pick}
 use Rattle.rules.specs.SearchLaws.{first-eq, hit, miss, pick-elim}
 use Rattle.rules.specs.Stage.{Absent, Entry, StageOk, beyond, changeWithin, chosen, closed, index, indexes, liveWeights, raise, stay, valueOf}
 use Rattle.stage.specs.Laws.{home-nowhere}
-use Rattle.stage.specs.LiveLaws.{live-block-in, live-block-open, live-block-sum, open-entry-in, raise-live-set, set-live-set}
+use Rattle.stage.specs.LiveLaws.{live-block-in, live-block-open, live-block-sum, open-entry-in, open-entry-is, raise-live-set, set-live-set}
 use Rattle.stage.specs.Meaning.{FirstAt, Home, Passed, PlaceWithin, StageFits, StageScanned, at-free, at-none, at-own, entries, has, hasNot, liveBlock, openEntry, placeIn}
 use Rattle.stage.specs.declared.StagePlace.the-variants.{Own, Free}
 use Rattle.stage.specs.declared.StageScan.{StageScan}
@@ -118,6 +118,15 @@ module _ (len count w k L : ℕ) (cells batch : List ℕ) (f : StageFits len cou
   entry-in : (t : ℕ) → t < length (indexes (entries L w (2 * (k - 1)) batch)) → openEntry t (entries L w (2 * (k - 1)) batch) < 2 * (k - 1)
   entry-in t h = omega (arith, open-entry-in t (entries L w (2 * (k - 1)) batch) h, length-map (chop w (2 * (k - 1)) batch) (entryOf L w), length-chop w (2 * (k - 1)) batch)
 
+  -- and says its number
+  entry-is : (t : ℕ) → t < length (indexes (entries L w (2 * (k - 1)) batch))
+      → entryOf L w (block w batch (openEntry t (entries L w (2 * (k - 1)) batch))) ≡ index (getD (indexes (entries L w (2 * (k - 1)) batch)) t 0)
+  entry-is t h =
+      let x : ℕ = openEntry t (entries L w (2 * (k - 1)) batch) in
+      ap (entryOf L w) (sym (getD-chop w (2 * (k - 1)) batch x (entry-in t h)))
+      ∙ sym (List·getD-map (entryOf L w) (chop w (2 * (k - 1)) batch) x [])
+      ∙ open-entry-is t (entries L w (2 * (k - 1)) batch) (entryOf L w []) h
+
   -- a change at the bit's own block, of rank t
   own-place : (i t : ℕ) → FirstAt (suc i) (indexes (entries L w (2 * (k - 1)) batch)) t
       → PlaceWithin len count w k L i cells batch (Own (liveBlock (len * L) t (chop len count cells)) (openEntry t (entries L w (2 * (k - 1)) batch)) (getD (liveWeights (len * L) (chop len count cells)) t 0))
@@ -157,7 +166,7 @@ module _ (len count w k L : ℕ) (cells batch : List ℕ) (f : StageFits len cou
         stays = within-free W L i bs es as-many t o r ∙ ap (λ (c : List ℕ). stay (pick (ℕ-discrete (getD (liveWeights W bs) t 0 % 2) 0) (set bs j (raise L c)) bs) (set es (openEntry t es) (index (suc i)))) b;
         cells-after = pick-through (ℕ-discrete (getD (liveWeights W bs) t 0 % 2) 0) join (blocks-set len count cells (f .inside) j (raise L (block len cells j)) (block-in t (r .inside))) (blocks-kept len count cells (f .inside));
         batch-after = entries-set L w (2 * (k - 1)) batch (f .indexed .holds) (f .indexed .low) (openEntry t es) (index (suc i)) (entry-in t (r .inside));
-      })
+      }) (free-zero L w (block w batch (openEntry t es)) (entry-is t (r .inside) ∙ ap index (r .there)))
 
   -- the block that the scan holds for the bit is its own
   own-home : (i place slot weight : ℕ) → Home (len * L) (length (chop len count cells)) (suc i) (chop len count cells) (entries L w (2 * (k - 1)) batch) place slot weight

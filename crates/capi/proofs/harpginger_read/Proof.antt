@@ -1,0 +1,33 @@
+-- Read across the boundary.
+use Rattle.rules.specs.Calls.{readCall}
+use Rattle.rules.specs.declared.Settings.{Settings}
+use Rattle.capi.specs.Laws.{crossed-read}
+use borrow.Author.Needs.{needs}
+use Rattle.capi.proofs.harpginger_read.Statement.{statement}
+use Rattle.capi.proofs.harpginger_read.Tie as tie
+
+record-of-requires : tie.Need-record-of-requires
+record-of-requires c κs = search needs
+
+read-requires : tie.Need-read-requires
+read-requires c κs = search needs
+
+value-requires : tie.Need-value-requires
+value-requires c κs = search needs
+
+number-requires : tie.Need-number-requires
+number-requires c κs = search needs
+
+same-length : tie.Need-same-length
+same-length c = search needs
+
+returns : tie.Need-returns
+returns c =
+    let e = c .before .before .before .before in
+    let o = e .before .before .before .before .before .before in
+    crossed-read (λ (r : Settings). readCall r (o .args .sheet .now) (o .args .out .now)) (e .before .before .record-of .ensures) (e .read .ensures) (c .number .ensures) (c .before .value .ensures)
+
+pub harpginger-read-spec : {M : Type 1} → statement M
+harpginger-read-spec =
+    tie.close
+    (tie.spec record-of-requires read-requires value-requires number-requires same-length returns)

@@ -1,0 +1,84 @@
+-- Settings across the boundary: seven numbers are written, or none.
+use mathlib.Core.Path.{_≡_, sym, ap, _∙_}
+use mathlib.Core.List.{List}
+use native.Mathlib.Decide.{ℕ-discrete}
+use native.Mathlib.Omega.{arith}
+use lib.ListN.{length, length-set}
+use Rattle.rules.specs.Answer.{numberOf, valueOf}
+use Rattle.rules.specs.SearchLaws.{pick-yes, pick-no}
+use Rattle.rules.specs.declared.Answer.{Answer}
+use Rattle.rules.specs.declared.Setup.{Setup}
+use Rattle.capi.specs.Laws.{seven-set}
+use Rattle.capi.specs.Meaning.{numbersOf}
+use borrow.Author.Needs.{needs}
+use Rattle.capi.proofs.harpginger_settings.Statement.{statement}
+use Rattle.capi.proofs.harpginger_settings.Tie as tie
+
+returns : tie.Need-returns
+returns c =
+    let e = pick-no (ℕ-discrete _ 7) _ _ (c .if1 .taken) in
+    (sym (ap numberOf e), (sym (ap valueOf e), sym (pick-no (ℕ-discrete _ 7) _ _ (c .if1 .taken))))
+
+accept-requires : tie.Need-accept-requires
+accept-requires c κs = search needs
+
+slice-write-numbers : tie.Need-slice-write-numbers
+slice-write-numbers c = search needs
+
+slice-write-numbers-2 : tie.Need-slice-write-numbers-2
+slice-write-numbers-2 c = search needs
+
+slice-write-numbers-3 : tie.Need-slice-write-numbers-3
+slice-write-numbers-3 c = search needs
+
+slice-write-numbers-4 : tie.Need-slice-write-numbers-4
+slice-write-numbers-4 c = search needs
+
+slice-write-numbers-5 : tie.Need-slice-write-numbers-5
+slice-write-numbers-5 c = simp length-set (omega (arith, c .before .before .if1 .left))
+
+slice-write-numbers-6 : tie.Need-slice-write-numbers-6
+slice-write-numbers-6 c = simp length-set (omega (arith, c .before .before .if1 .left))
+
+slice-write-numbers-7 : tie.Need-slice-write-numbers-7
+slice-write-numbers-7 c = simp length-set (omega (arith, c .before .before .if1 .left))
+
+value-requires : tie.Need-value-requires
+value-requires c κs = search needs
+
+number-requires : tie.Need-number-requires
+number-requires c κs = search needs
+
+same-length : tie.Need-same-length
+same-length c = search needs
+
+returns-2 : tie.Need-returns-2
+returns-2 c =
+    let x = c .before .before .before in
+    let o = x .before .before .before in
+    let l = x .before .if1 .left in
+    let q = pick-yes (ℕ-discrete _ 7) _ _ l in (
+      c .number .ensures ∙ ap (λ (y : Setup). numberOf (y .answer)) (x .accept .ensures) ∙ sym (ap numberOf q),
+      (
+        c .before .value .ensures ∙ ap (λ (y : Setup). valueOf (y .answer)) (x .accept .ensures) ∙ sym (ap valueOf q),
+        seven-set (o .args .numbers .now) (x .accept .result .settings) l ∙ ap (λ (y : Setup). numbersOf (y .settings)) (x .accept .ensures) ∙ sym (pick-yes (ℕ-discrete _ 7) _ _ l),
+      ),
+    )
+
+pub harpginger-settings-spec : {M : Type 1} → statement M
+harpginger-settings-spec =
+    tie.close
+    (tie.spec
+    returns
+    accept-requires
+    slice-write-numbers
+    slice-write-numbers-2
+    slice-write-numbers-3
+    slice-write-numbers-4
+    slice-write-numbers-5
+    slice-write-numbers-6
+    slice-write-numbers-7
+    value-requires
+    number-requires
+    same-length
+    returns-2)

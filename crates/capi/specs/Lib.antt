@@ -1,0 +1,3 @@
+-- What crosses the C boundary.
+pub mod Meaning
+pub mod Laws

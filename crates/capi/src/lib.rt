@@ -1,0 +1,97 @@
+// The C interface: the four calls over numbers and lent bytes. A settings record crosses as seven numbers that the caller owns. Assumes nothing.
+use rules::Settings;
+ghost use mathlib.Core.Path.{_≡_};
+ghost use Prim.Native.Nat.{_≤_, _<_};
+ghost use lib.ListN.{length};
+ghost use Rattle.rules.specs.Answer.{numberOf, valueOf};
+ghost use Rattle.rules.specs.Calls.{settingsCall, eraseCall, readCall};
+ghost use Rattle.capi.specs.Meaning.{recordOf, answerInto, recordInto};
+
+// The record that seven numbers stand for; any other count of numbers stands for the record of zeros.
+fn record_of(numbers: &[usize]) -> Settings
+    ensures { λ r. ⌜ r ≡ recordOf (now (numbers .entry)) ⌝ }
+{
+    if numbers.len() != 7 {
+        return Settings {
+            kind: 0,
+            k: 0,
+            top: 0,
+            n: 0,
+            m: 0,
+            s: 0,
+            w: 0,
+        };
+    }
+    Settings {
+        kind: numbers[0],
+        k: numbers[1],
+        top: numbers[2],
+        n: numbers[3],
+        m: numbers[4],
+        s: numbers[5],
+        w: numbers[6],
+    }
+}
+
+// Settings: the record is written as seven numbers, of zeros where the settings are refused. The answer's number; its value is written.
+#[no_mangle]
+pub extern "C" fn harpginger_settings(
+    kind: usize,
+    k: usize,
+    top: usize,
+    n: usize,
+    numbers: &mut [usize],
+    value: &mut usize,
+) -> usize
+    ensures { λ r. ⌜ r ≡ numberOf (answerInto (now (numbers .entry)) (settingsCall kind k top n)) ⌝ }
+    ensures { λ _. ⌜ now (value .exit) ≡ valueOf (answerInto (now (numbers .entry)) (settingsCall kind k top n)) ⌝ }
+    ensures { λ _. ⌜ now (numbers .exit) ≡ recordInto (now (numbers .entry)) (settingsCall kind k top n) ⌝ }
+{
+    if numbers.len() != 7 {
+        *value = 0;
+        return 1;
+    }
+    let setup = Settings::accept(kind, k, top, n);
+    let r = setup.settings;
+    numbers[0] = r.kind;
+    numbers[1] = r.k;
+    numbers[2] = r.top;
+    numbers[3] = r.n;
+    numbers[4] = r.m;
+    numbers[5] = r.s;
+    numbers[6] = r.w;
+    let answer = setup.answer;
+    *value = answer.value();
+    answer.number()
+}
+
+// Erase: all n cells are set to 0. The answer's number; its value is written.
+#[no_mangle]
+pub extern "C" fn harpginger_erase(numbers: &[usize], sheet: &mut [u8], value: &mut usize) -> usize
+    ensures { λ r. ⌜ r ≡ numberOf (eraseCall (recordOf (now (numbers .entry))) (now (sheet .entry)) .answer) ⌝ }
+    ensures { λ _. ⌜ now (value .exit) ≡ valueOf (eraseCall (recordOf (now (numbers .entry))) (now (sheet .entry)) .answer) ⌝ }
+    ensures { λ _. ⌜ now (sheet .exit) ≡ eraseCall (recordOf (now (numbers .entry))) (now (sheet .entry)) .sheet ⌝ }
+{
+    let settings = record_of(numbers);
+    let answer = sheet::erase(settings, sheet);
+    *value = answer.value();
+    answer.number()
+}
+
+// Read: the k bits are written, 0 or 1, bit 0 first. The answer's number; its value is written.
+#[no_mangle]
+pub extern "C" fn harpginger_read(
+    numbers: &[usize],
+    sheet: &[u8],
+    out: &mut [u8],
+    value: &mut usize,
+) -> usize
+    ensures { λ r. ⌜ r ≡ numberOf (readCall (recordOf (now (numbers .entry))) (now (sheet .entry)) (now (out .entry)) .answer) ⌝ }
+    ensures { λ _. ⌜ now (value .exit) ≡ valueOf (readCall (recordOf (now (numbers .entry))) (now (sheet .entry)) (now (out .entry)) .answer) ⌝ }
+    ensures { λ _. ⌜ now (out .exit) ≡ readCall (recordOf (now (numbers .entry))) (now (sheet .entry)) (now (out .entry)) .places ⌝ }
+{
+    let settings = record_of(numbers);
+    let answer = sheet::read(settings, sheet, out);
+    *value = answer.value();
+    answer.number()
+}

@@ -1,0 +1,65 @@
+-- The m blocks are lent, and put back.
+use mathlib.Core.Path.{sym}
+use lib.Seq.{length-take-le}
+use Rattle.sheet.specs.ZeroLaws.{cells-in}
+use Rattle.sheet.specs.WithinLaws.{raise-asks, raise-told}
+use borrow.Author.Needs.{needs}
+use Rattle.sheet.proofs.within.raise_at.Statement.{statement}
+use Rattle.sheet.proofs.within.raise_at.Tie as tie
+use Rattle.sheet.proofs.within.raise_at.Reads as reads
+use Rattle.sheet.proofs.within.raise_at.Lts as lts
+use Rattle.sheet.proofs.layout.block_cells.Reads as block-cells-reads
+use Rattle.sheet.proofs.layout.parity_length.Reads as parity-length-reads
+use Rattle.staged.proofs.raise_parity.Reads as raise-parity-reads
+
+block-cells-requires : tie.Need-block-cells-requires
+block-cells-requires c κs = search needs
+
+parity-length-requires : tie.Need-parity-length-requires
+parity-length-requires c κs = search needs
+
+slice-relend-prefix-raise-parity : tie.Need-slice-relend-prefix-raise-parity
+slice-relend-prefix-raise-parity c =
+    let b = c .before in
+    let o = b .before .before in
+    cells-in _ (o .pre .0) _ (o .pre .1) _ (b .block-cells .ensures)
+
+slice-aggregate-raise-parity : tie.Need-slice-aggregate-raise-parity
+slice-aggregate-raise-parity c =
+    let b = c .before .before in
+    let o = b .before .before in
+    sym (length-take-le _ (o .args .sheet .now) (cells-in _ (o .pre .0) _ (o .pre .1) _ (b .block-cells .ensures)))
+
+cast-raise-parity : tie.Need-cast-raise-parity
+cast-raise-parity c = search needs
+
+raise-parity-requires : tie.Need-raise-parity-requires
+raise-parity-requires c κs =
+    let n = c .before .before in
+    let b = n .before in
+    let o = b .before .before in
+    raise-asks _ (o .pre .0) _ (o .pre .1) _ (o .pre .2) _ (o .pre .3) _ _ (b .block-cells .ensures) (n .parity-length .ensures)
+
+same-length : tie.Need-same-length
+same-length c = search needs
+
+returns : tie.Need-returns
+returns c =
+    let y = c .before .before in
+    let n = y .before .before .before in
+    let b = n .before in
+    let o = b .before .before in
+    raise-told _ (o .pre .0) _ (o .pre .1) _ (o .pre .2) _ (o .pre .3) _ _ _ (b .block-cells .ensures) (n .parity-length .ensures) (y .raise-parity .ensures)
+
+pub raise-at-spec : {M : Type 1} → statement M
+raise-at-spec =
+    tie.close
+    (tie.spec
+    block-cells-requires
+    parity-length-requires
+    slice-relend-prefix-raise-parity
+    slice-aggregate-raise-parity
+    cast-raise-parity
+    raise-parity-requires
+    same-length
+    returns)

@@ -1,0 +1,76 @@
+//! Every assignment of levels for the tiniest settings, each read and each bit changed.
+
+use super::case::{Call, Case};
+use super::comparison::Comparison;
+use super::plan::Size;
+use crate::Settings;
+
+/// The tiniest plain settings with levels up to L, a few with levels above it, and the blocks and
+/// the index blocks of the tiniest staged ones: two blocks, or one and a half in a light run.
+pub fn tiny(comparison: &mut Comparison, size: Size) {
+    for asked in [
+        [0, 2, 1, 4],
+        [0, 2, 1, 5],
+        [0, 2, 1, 6],
+        [0, 2, 2, 4],
+        [0, 2, 2, 5],
+        [0, 3, 2, 9],
+    ] {
+        let sheet = vec![0; asked[3] as usize];
+        each_level(comparison, asked, &sheet, 0..sheet.len(), asked[2] as u8);
+    }
+    each_level(comparison, [0, 2, 1, 4], &[0; 4], 0..4, 3);
+    each_level(comparison, [0, 2, 1, 5], &[0; 5], 0..5, 2);
+    each_level(comparison, [0, 2, 2, 5], &[0; 5], 0..5, 3);
+    if size == Size::Light {
+        return staged(comparison, 6);
+    }
+    staged(comparison, 8);
+    each_level(comparison, [0, 2, 255, 4], &[0; 4], 0..2, 255);
+}
+
+/// So many cells of blocks at stage 0 and at stage 1, and of index blocks beside fitting and
+/// unfitting blocks.
+fn staged(comparison: &mut Comparison, cells: usize) {
+    let asked = [1, 4, 2, 28];
+    for rest in [[0, 0, 0, 0, 2, 2, 2, 2], [0, 0, 1, 0, 2, 2, 2, 2]] {
+        let sheet = [&[0; 8][..], &rest, &[0; 12]].concat();
+        each_level(comparison, asked, &sheet, 0..cells, 2);
+    }
+    for index in [[0, 1, 0, 2], [0, 0, 1, 1], [1, 0, 2, 2], [0, 0, 0, 0]] {
+        let sheet = [&[2; 16][..], &index, &[2; 8]].concat();
+        each_level(comparison, asked, &sheet, 4..4 + cells, 2);
+    }
+    for blocks in [[1, 2, 0, 0], [2, 2, 1, 0], [2, 2, 2, 2]] {
+        let sheet = [&[2; 8][..], &blocks, &[2; 16]].concat();
+        each_level(comparison, asked, &sheet, 18..18 + cells, 2);
+    }
+}
+
+/// Every assignment of levels up to the top one to these cells: read, and each bit changed, that
+/// after the last too.
+fn each_level(
+    comparison: &mut Comparison,
+    [kind, k, top, n]: [u64; 4],
+    sheet: &[u8],
+    cells: std::ops::Range<usize>,
+    highest: u8,
+) {
+    let (_, settings) = Settings::accept(kind, k, top, n);
+    let mut case = Case::on(Call::Read, &settings, sheet);
+    loop {
+        case.call = Call::Read;
+        comparison.compare(&case);
+        case.call = Call::Change;
+        for bit in 0..=settings.k {
+            case.bit = bit;
+            comparison.compare(&case);
+        }
+        let levels = &mut case.sheet[cells.clone()];
+        let Some(raised) = levels.iter().position(|&level| level < highest) else {
+            return;
+        };
+        levels[raised] += 1;
+        levels[..raised].fill(0);
+    }
+}
