@@ -51,9 +51,14 @@ raise-own-requires c κs =
     let e = u .before .before in
     let k = e .before .before in
     let o = k .before .before .before in
-    let t = not-false _ (e .if1 .left) in
-    (o .pre .0, o .pre .1, o .pre .3, stage-keeps _ (o .pre .0) _ (o .pre .1) (o .args .bit) _ (o .pre .3) (k .scan-at .ensures) t, o .pre .2,
-    place-at _ (o .pre .0) _ (o .pre .1) _ _ (o .pre .3) (k .scan-at .ensures) t (o .pre .2) _ (u .parity-count .ensures) (n .place-in .ensures) (c .before .before .j .given .1))
+    let t = not-false _ (e .if1 .left) in (
+      o .pre .0,
+      o .pre .1,
+      o .pre .3,
+      stage-keeps _ (o .pre .0) _ (o .pre .1) (o .args .bit) _ (o .pre .3) (k .scan-at .ensures) t,
+      o .pre .2,
+      place-at _ (o .pre .0) _ (o .pre .1) _ _ (o .pre .3) (k .scan-at .ensures) t (o .pre .2) _ (u .parity-count .ensures) (n .place-in .ensures) (c .before .before .j .given .1),
+    )
 
 same-length-2 : tie.Need-same-length-2
 same-length-2 c = search needs
@@ -71,9 +76,14 @@ take-free-requires c κs =
     let e = u .before .before in
     let k = e .before .before in
     let o = k .before .before .before in
-    let t = not-false _ (e .if1 .left) in
-    (o .pre .0, o .pre .1, o .pre .3, stage-keeps _ (o .pre .0) _ (o .pre .1) (o .args .bit) _ (o .pre .3) (k .scan-at .ensures) t, o .pre .2,
-    place-at _ (o .pre .0) _ (o .pre .1) _ _ (o .pre .3) (k .scan-at .ensures) t (o .pre .2) _ (u .parity-count .ensures) (n .place-in .ensures) (c .before .before .j2 .given .1))
+    let t = not-false _ (e .if1 .left) in (
+      o .pre .0,
+      o .pre .1,
+      o .pre .3,
+      stage-keeps _ (o .pre .0) _ (o .pre .1) (o .args .bit) _ (o .pre .3) (k .scan-at .ensures) t,
+      o .pre .2,
+      place-at _ (o .pre .0) _ (o .pre .1) _ _ (o .pre .3) (k .scan-at .ensures) t (o .pre .2) _ (u .parity-count .ensures) (n .place-in .ensures) (c .before .before .j2 .given .1),
+    )
 
 same-length-3 : tie.Need-same-length-3
 same-length-3 c = search needs
@@ -91,10 +101,12 @@ move-on-requires c κs =
     let e = u .before .before in
     let k = e .before .before in
     let o = k .before .before .before in
-    let t = not-false _ (e .if1 .left) in
-    (o .pre .0, o .pre .1,
-    goes-on _ (o .pre .0) _ (o .pre .1) _ _ (o .pre .3) (k .scan-at .ensures) t
-    (place-at _ (o .pre .0) _ (o .pre .1) _ _ (o .pre .3) (k .scan-at .ensures) t (o .pre .2) _ (u .parity-count .ensures) (n .place-in .ensures) (c .before .enum-told .given .1)))
+    let t = not-false _ (e .if1 .left) in (
+      o .pre .0,
+      o .pre .1,
+      goes-on _ (o .pre .0) _ (o .pre .1) _ _ (o .pre .3) (k .scan-at .ensures) t
+          (place-at _ (o .pre .0) _ (o .pre .1) _ _ (o .pre .3) (k .scan-at .ensures) t (o .pre .2) _ (u .parity-count .ensures) (n .place-in .ensures) (c .before .enum-told .given .1)),
+    )
 
 same-length-4 : tie.Need-same-length-4
 same-length-4 c = search needs
