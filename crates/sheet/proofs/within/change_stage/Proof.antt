@@ -1,21 +1,12 @@
 -- The scan, the place, and the change there.
-use mathlib.Core.Path.{sym, _∙_}
 use native.Mathlib.Omega.{arith}
 use borrow.Author.Tests.{not-true, not-false}
 use Rattle.rules.specs.AcceptLaws.{staged-bits}
 use Rattle.sheet.specs.StageLaws.{stage-below}
-use Rattle.sheet.specs.WithinLaws.{below, stage-broken, stage-keeps, place-at, goes-on}
+use Rattle.sheet.specs.WithinLaws.{stage-broken, stage-keeps, place-at, goes-on}
 use borrow.Author.Needs.{needs}
 use Rattle.sheet.proofs.within.change_stage.Statement.{statement}
 use Rattle.sheet.proofs.within.change_stage.Tie as tie
-use Rattle.sheet.proofs.within.change_stage.Reads as reads
-use Rattle.sheet.proofs.within.change_stage.Lts as lts
-use Rattle.sheet.proofs.kind1.move_on.Reads as move-on-reads
-use Rattle.sheet.proofs.kind1.scan_at.Reads as scan-at-reads
-use Rattle.sheet.proofs.layout.parity_count.Reads as parity-count-reads
-use Rattle.sheet.proofs.within.raise_own.Reads as raise-own-reads
-use Rattle.sheet.proofs.within.take_free.Reads as take-free-reads
-use Rattle.stage.proofs.place_in.Reads as place-in-reads
 
 scan-at-requires : tie.Need-scan-at-requires
 scan-at-requires c κs =
