@@ -91,6 +91,7 @@ number-zero q (x ∷ b) p e =
     let y : x ≤ x * q ^ length b = le-mul-of-pos-right x (pow-pos′ q (length b) p) in
     omega (arith, number-zero q b p r)
 
+-- two entries that are one have one number
 same-index : {u v : ℕ} → _≡_ {A = Entry} (index u) (index v) → u ≡ v
 same-index e = cc
 

@@ -3,7 +3,7 @@ use mathlib.Core.Path.{_≡_, refl, sym, ap, ap₂, _∙_, subst, subst₂}
 use mathlib.Core.Bool.{true, false}
 use mathlib.Core.List.{List, _++_, map}
 use mathlib.Core.Logic.{_≢_}
-use Prim.Native.Nat.{ℕ, zero, suc, _+_, _-_, _*_, _%_, _^_, _≤_, _<_}
+use Prim.Native.Nat.{ℕ, suc, _+_, _-_, _*_, _%_, _^_, _≤_, _<_}
 use native.Mathlib.Decide.{ℕ-discrete}
 use native.Mathlib.Nat.{mul-le-mul, mul-le-mul-right}
 use native.Mathlib.Omega.{arith}
@@ -11,12 +11,12 @@ use lib.ListN.{length, getD, take, drop, replicate, set, length-append, length-d
 use lib.Seq.{drop-append-add, length-take-le, take-all}
 use Rattle.rules.specs.AcceptLaws.{StagedFacts, staged-bits}
 use Rattle.rules.specs.Batches.{batch, batchCells, decode, digits, entryCells, write}
-use Rattle.rules.specs.Calls.{Sound, changeSheet, readBit}
-use Rattle.rules.specs.Cells.{Low, block, chop, join, store, sum, tabulate}
+use Rattle.rules.specs.Calls.{Sound, changeSheet}
+use Rattle.rules.specs.Cells.{Low, block, join, store, sum, tabulate}
 use Rattle.rules.specs.Promises.{outcome}
 use Rattle.rules.specs.Search.{at, done, pick}
 use Rattle.rules.specs.SearchLaws.{pick-no, pick-yes}
-use Rattle.rules.specs.Stage.{Entry, Within, beyond, changeWithin, closed, index, liveWeights, raise, stay}
+use Rattle.rules.specs.Stage.{Entry, Within, beyond, changeWithin, closed, index, raise, stay}
 use Rattle.rules.specs.Staged.{after, change, changeCells, fromStaged, indexBlocks, later, liveCount, parityBlocks, parityCount, parityLength, written}
 use Rattle.rules.specs.Staged as S
 use Rattle.rules.specs.declared.Answer.the-variants.{BadSheet, Done}
@@ -92,6 +92,7 @@ width-most r p d x h l =
     mul-le-mul a (p .top-most)
 
 module _ (r : Settings) (p : StagedFacts r) (f : List ℕ) (v : Levelled r f) (d x : ℕ) (h : d < r .s - 1) (l : x < indexBlocks (r .s)) (a : ℕ) (e : a ≡ indexAt r d x) where
+  -- it lies in the sheet
   inside-sheet : a + r .w ≤ length f
   inside-sheet = omega (arith, index-in r p d h x l, v .long)
 
@@ -99,6 +100,7 @@ module _ (r : Settings) (p : StagedFacts r) (f : List ℕ) (v : Levelled r f) (d
   lent-width : a + r .w - a ≡ r .w
   lent-width = omega arith
 
+  -- so as many are lent
   pub lent-long : length (take (a + r .w - a) (drop a f)) ≡ r .w
   lent-long = ap (λ (n : ℕ). length (take n (drop a f))) lent-width ∙ length-take-le (r .w) (drop a f) (omega (arith, length-drop a f, inside-sheet))
 
@@ -145,26 +147,32 @@ module _ (r : Settings) (p : StagedFacts r) (f : List ℕ) (v : Levelled r f) (d
 -- ---- one stage's parts, with m blocks of any levels before them
 
 module _ (r : Settings) (p : StagedFacts r) (f : List ℕ) (v : Levelled r f) (d : ℕ) (h : d < r .s - 1) where
+  -- the cells past the m blocks
   abbrev rest : List ℕ
   rest = drop (r .m * 2 ^ r .s) f
 
+  -- the m blocks have m times k cells
   blocks-long : length (mBlocks r f) ≡ r .m * 2 ^ r .s
   blocks-long = length-take-le (r .m * 2 ^ r .s) f (cells-in r p f v (r .m * 2 ^ r .s) refl)
 
+  -- and so have the parity blocks together
   parities : parityCount (r .s) (r .m) d * parityLength d ≡ r .m * 2 ^ r .s
   parities = parity-cells r p d (omega (arith, h))
 
+  -- the batch lies in the cells past the m blocks
   batch-fits : (r .s - 2 - d) * batchCells (r .s) (r .w) + batchCells (r .s) (r .w) ≤ length rest
   batch-fits = omega (arith, length-drop (r .m * 2 ^ r .s) f, v .long, batch-inside r p d h)
 
-  -- the parity blocks are all of the m blocks, and the index blocks all of the batch
+  -- the parity blocks are all of the m blocks
   cells-whole : take (parityCount (r .s) (r .m) d * parityLength d) (mBlocks r f) ≡ mBlocks r f
   cells-whole = take-all (parityCount (r .s) (r .m) d * parityLength d) (mBlocks r f) (omega (arith, parities, blocks-long))
 
+  -- the batch has its cells
   batch-long : length (stageBatch r f d) ≡ batchCells (r .s) (r .w)
   unfolding batch
   batch-long = length-block (batchCells (r .s) (r .w)) rest (r .s - 2 - d) batch-fits
 
+  -- and the index blocks are all of it
   batch-whole : take (2 * (2 ^ r .s - 1) * r .w) (stageBatch r f d) ≡ stageBatch r f d
   batch-whole = take-all (2 * (2 ^ r .s - 1) * r .w) (stageBatch r f d) (omega (arith, batch-long))
 
@@ -197,6 +205,7 @@ module _ (r : Settings) (p : StagedFacts r) (f : List ℕ) (v : Levelled r f) (d
   -- ---- a parity block raised
 
   module _ (j : ℕ) (l : j < parityCount (r .s) (r .m) d) where
+    -- it lies in the m blocks
     block-in : j * parityLength d + parityLength d ≤ length (mBlocks r f)
     block-in = omega (arith, blocks-long, parities, mul-le-mul-right {m = suc j} {n = parityCount (r .s) (r .m) d} (parityLength d) l)
 
@@ -210,18 +219,23 @@ module _ (r : Settings) (p : StagedFacts r) (f : List ℕ) (v : Levelled r f) (d
         ap (λ (x : List ℕ). x ++ drop c f) q
         ∙ ap₂ (λ (x y : ℕ). store x (take y f) j (raise (r .top) (block x (take y f) j)) ++ drop y f) e₂ e₁
 
+    -- its cells before
     abbrev old : List ℕ
     old = block (parityLength d) (mBlocks r f) j
 
+    -- as many as a parity block has
     old-long : length old ≡ parityLength d
     old-long = length-block (parityLength d) (mBlocks r f) j block-in
 
+    -- and raised, still as many
     new-long : length (raise (r .top) old) ≡ parityLength d
     new-long = raise-length (r .top) old ∙ old-long
 
+    -- none of them is above L
     old-low : Low (r .top) old
     old-low = low-block (r .top) (parityLength d) (mBlocks r f) j (low-take (r .top) (r .m * 2 ^ r .s) f (v .low))
 
+    -- the m blocks keep their length
     raised-long : length (raisedBlocks r f d j) ≡ r .m * 2 ^ r .s
     raised-long = length-store (parityLength d) (mBlocks r f) j block-in (raise (r .top) old) new-long ∙ blocks-long
 
@@ -260,6 +274,7 @@ full-most r p d h len e =
 
 -- ---- what a place says
 
+-- the bit's own block, the first free one with its index block all 0, or a later stage with fewer than k blocks that aren't full
 abbrev pub PlaceSays : Settings → List ℕ → ℕ → ℕ → StagePlace → Type 0
 PlaceSays r f i d (Own j x v) = StaysAt r f i d j x v
     (set (parityBlocks (r .s) (r .m) d (mBlocks r f)) j (raise (r .top) (block (parityLength d) (mBlocks r f) j)))
@@ -276,6 +291,7 @@ PlaceSays r f i d Beyond =
     (changeWithin (parityLength d * r .top) (r .top) i (parityBlocks (r .s) (r .m) d (mBlocks r f)) (entries (r .top) (r .w) (indexBlocks (r .s)) (stageBatch r f d)) ≡ beyond)
     × (liveCount (r .s) (r .m) (r .top) d (mBlocks r f) < 2 ^ r .s)
 
+-- a place means what it says
 place-says : (r : Settings) (f : List ℕ) (i d : ℕ) {y : StagePlace} → PlaceAt r f i d y → PlaceSays r f i d y
 place-says r f i d (at-own j x v h) = h
 place-says r f i d (at-free j x v h z) = (h, z)
@@ -284,6 +300,7 @@ place-says r f i d (at-none e n) = (e, n)
 -- ---- the change
 
 module _ (r : Settings) (p : StagedFacts r) (f : List ℕ) (v : Levelled r f) (i d : ℕ) (a : AtStage r f (at d)) where
+  -- the stage is from 1 up
   pub below : d < r .s - 1
   below = stage-below r p f d (a .stage)
 
@@ -339,18 +356,23 @@ module _ (r : Settings) (p : StagedFacts r) (f : List ℕ) (v : Levelled r f) (i
         ∙ sym (sheet-maps r f i s (stay-change (h .stays) ∙ ap₂ (λ (y z : List ℕ). done (y ++ batchSet r f d z)) (h .cells-after) (h .batch-after) ∙ ap done (sym e)))
 
   module _ (j x w : ℕ) (h : PlaceAt r f i d (Own j x w)) where
+    -- what the bit's own block says
     abbrev own : PlaceSays r f i d (Own j x w)
     own = place-says r f i d h
 
+    -- it is one of the parity blocks
     pub own-block : j < parityCount (r .s) (r .m) d
     own-block = own .in-cells
 
+    -- its index block is one of the batch
     pub own-slot : x < indexBlocks (r .s)
     own-slot = own .in-batch
 
+    -- it is not full
     pub own-weight : w < parityLength d * r .top
     own-weight = weight-below r p f v d below j own-block w (own .weight) (own .live)
 
+    -- the m blocks after the change
     own-cells : store (parityLength d) (take (parityCount (r .s) (r .m) d * parityLength d) (mBlocks r f)) j (raise (r .top) (block (parityLength d) (mBlocks r f) j)) ≡ raisedBlocks r f d j
     own-cells = ap (λ (c : List ℕ). store (parityLength d) c j (raise (r .top) (block (parityLength d) (mBlocks r f) j))) (cells-whole r p f v d below)
 
@@ -376,23 +398,28 @@ module _ (r : Settings) (p : StagedFacts r) (f : List ℕ) (v : Levelled r f) (i
         (omega (arith, raised-sum r p f v d below j own-block w (own .weight) (own .live), ap sum q))
 
   module _ (j x w : ℕ) (h : PlaceAt r f i d (Free j x w)) where
+    -- what the first free block says
     abbrev free : PlaceSays r f i d (Free j x w)
     free = place-says r f i d h
 
+    -- it is one of the parity blocks
     pub free-block : j < parityCount (r .s) (r .m) d
     free-block = free .0 .in-cells
 
+    -- its index block is one of the batch
     pub free-slot : x < indexBlocks (r .s)
     free-slot = free .0 .in-batch
 
-    -- its index block is all 0, before the parity block is raised and after
+    -- its index block is all 0
     pub free-dark : sum (part (indexAt r d x) (r .w) f) ≡ 0
     free-dark = ap (λ (g : List ℕ). sum (part (indexAt r d x) (r .w) g)) (whole r p f v d below)
         ∙ ap sum (index-part r p f v d below (mBlocks r f) x (blocks-long r p f v d below) free-slot) ∙ free .1
 
+    -- and after the parity block is raised
     pub raised-dark : sum (part (indexAt r d x) (r .w) (parityRaised r f d j)) ≡ 0
     raised-dark = ap sum (index-part r p f v d below (raisedBlocks r f d j) x (raised-long r p f v d below j free-block) free-slot) ∙ free .1
 
+    -- the batch after the change
     free-index : store (r .w) (take (indexBlocks (r .s) * r .w) (stageBatch r f d)) x (digits (suc (r .top)) (r .w) (suc i)) ≡ store (r .w) (stageBatch r f d) x (digits (suc (r .top)) (r .w) (suc i))
     free-index = ap (λ (b : List ℕ). store (r .w) b x (digits (suc (r .top)) (r .w) (suc i))) (batch-whole r p f v d below)
 

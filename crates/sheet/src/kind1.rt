@@ -6,6 +6,7 @@ use crate::layout::block_cells;
 use crate::layout::parity_count;
 use crate::layout::parity_length;
 use crate::layout::spare_at;
+use crate::within::change_stage;
 use block::all_zero;
 use block::raise_block;
 use moving::move_to;
@@ -206,4 +207,19 @@ fn change_stage0(settings: Settings, sheet: &mut [u8], bit: usize) -> Answer
     };
     raise_block(sheet, k, top, j, bit, weight);
     Answer::Done(1)
+}
+
+// Check 6, and the change at the sheet's stage.
+pub fn change_staged(settings: Settings, sheet: &mut [u8], bit: usize) -> Answer
+    requires { ⌜ StagedFacts settings × Levelled settings (now sheet) × (bit < settings .k) ⌝ }
+    ensures { λ r. ⌜ outcome r (now (sheet .exit)) ≡ fromSheet settings (now (sheet .entry)) bit ⌝ }
+{
+    let a = spare_at(settings);
+    if !all_zero(&sheet[a..]) {
+        return Answer::BadSheet;
+    }
+    let Stage::Left(left) = stage_left(settings, sheet) else {
+        return change_stage0(settings, sheet, bit);
+    };
+    change_stage(settings, sheet, bit, left)
 }

@@ -17,7 +17,7 @@ ghost use native.Mathlib.Decide.{ℕ-discrete};
 ghost use lib.ListN.{length};
 ghost use Rattle.rules.specs.Calls.{ask, andThen, checkShape};
 ghost use Rattle.rules.specs.Accept.{Genuine};
-ghost use Rattle.rules.specs.Promises.{ErasePromise, ReadPromise};
+ghost use Rattle.rules.specs.Promises.{ErasePromise, ReadPromise, ChangePromise};
 ghost use Rattle.sheet.specs.Meaning.{Levelled, BitsOf};
 ghost use Rattle.rules.specs.declared.Answer.the-variants.{BadLength};
 
@@ -91,4 +91,23 @@ pub fn read(settings: Settings, sheet: &[u8], out: &mut [u8]) -> Answer
     }
     let weights = b.weights;
     Answer::Done(write_bits(out, settings.k, weights))
+}
+
+// Change: the sheet of the encoding map for the bit named, and the levels raised; or Erase where it finds no place.
+pub fn change(settings: Settings, sheet: &mut [u8], bit: usize) -> Answer
+    ensures { λ r. ⌜ ChangePromise settings (now (sheet .entry)) bit r (now (sheet .exit)) ⌝ }
+{
+    if let Check::Refuse(answer) = check_size(settings, sheet.len()) {
+        return answer;
+    }
+    if settings.k <= bit {
+        return Answer::BadBit;
+    }
+    if let Level::Above(cell) = first_above(sheet, settings.top as u8) {
+        return Answer::BadLevel(cell);
+    }
+    if settings.kind == 0 {
+        return kind0::change_plain(settings, sheet, bit);
+    }
+    kind1::change_staged(settings, sheet, bit)
 }

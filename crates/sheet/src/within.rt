@@ -61,7 +61,13 @@ fn fill_index(settings: Settings, sheet: &mut [u8], left: usize, slot: usize) ->
 }
 
 // A free index block set to a number; how many levels that raises.
-fn name_index(settings: Settings, sheet: &mut [u8], left: usize, slot: usize, number: usize) -> usize
+fn name_index(
+    settings: Settings,
+    sheet: &mut [u8],
+    left: usize,
+    slot: usize,
+    number: usize,
+) -> usize
     requires { ⌜ StagedFacts settings × Levelled settings (now sheet) × (left < settings .s - 1) × (slot < indexBlocks (settings .s)) × (number < suc (settings .top) ^ settings .w) × (sum (part (indexAt settings left slot) (settings .w) (now sheet)) ≡ 0) ⌝ }
     ensures { λ _. ⌜ now (sheet .exit) ≡ spliced (indexAt settings left slot) (digits (suc (settings .top)) (settings .w) number) (now (sheet .entry)) ⌝ }
     ensures { λ r. ⌜ (r + sum (now (sheet .entry)) ≡ sum (now (sheet .exit))) × (r ≤ 65536 * 255) ⌝ }

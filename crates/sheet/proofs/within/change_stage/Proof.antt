@@ -1,21 +1,12 @@
 -- The scan, the place, and the change there.
-use mathlib.Core.Path.{sym, _∙_}
 use native.Mathlib.Omega.{arith}
 use borrow.Author.Tests.{not-true, not-false}
 use Rattle.rules.specs.AcceptLaws.{staged-bits}
 use Rattle.sheet.specs.StageLaws.{stage-below}
-use Rattle.sheet.specs.WithinLaws.{below, stage-broken, stage-keeps, place-at, goes-on}
+use Rattle.sheet.specs.WithinLaws.{stage-broken, stage-keeps, place-at, goes-on}
 use borrow.Author.Needs.{needs}
 use Rattle.sheet.proofs.within.change_stage.Statement.{statement}
 use Rattle.sheet.proofs.within.change_stage.Tie as tie
-use Rattle.sheet.proofs.within.change_stage.Reads as reads
-use Rattle.sheet.proofs.within.change_stage.Lts as lts
-use Rattle.sheet.proofs.kind1.move_on.Reads as move-on-reads
-use Rattle.sheet.proofs.kind1.scan_at.Reads as scan-at-reads
-use Rattle.sheet.proofs.layout.parity_count.Reads as parity-count-reads
-use Rattle.sheet.proofs.within.raise_own.Reads as raise-own-reads
-use Rattle.sheet.proofs.within.take_free.Reads as take-free-reads
-use Rattle.stage.proofs.place_in.Reads as place-in-reads
 
 scan-at-requires : tie.Need-scan-at-requires
 scan-at-requires c κs =
@@ -51,9 +42,14 @@ raise-own-requires c κs =
     let e = u .before .before in
     let k = e .before .before in
     let o = k .before .before .before in
-    let t = not-false _ (e .if1 .left) in
-    (o .pre .0, o .pre .1, o .pre .3, stage-keeps _ (o .pre .0) _ (o .pre .1) (o .args .bit) _ (o .pre .3) (k .scan-at .ensures) t, o .pre .2,
-    place-at _ (o .pre .0) _ (o .pre .1) _ _ (o .pre .3) (k .scan-at .ensures) t (o .pre .2) _ (u .parity-count .ensures) (n .place-in .ensures) (c .before .before .j .given .1))
+    let t = not-false _ (e .if1 .left) in (
+      o .pre .0,
+      o .pre .1,
+      o .pre .3,
+      stage-keeps _ (o .pre .0) _ (o .pre .1) (o .args .bit) _ (o .pre .3) (k .scan-at .ensures) t,
+      o .pre .2,
+      place-at _ (o .pre .0) _ (o .pre .1) _ _ (o .pre .3) (k .scan-at .ensures) t (o .pre .2) _ (u .parity-count .ensures) (n .place-in .ensures) (c .before .before .j .given .1),
+    )
 
 same-length-2 : tie.Need-same-length-2
 same-length-2 c = search needs
@@ -71,9 +67,14 @@ take-free-requires c κs =
     let e = u .before .before in
     let k = e .before .before in
     let o = k .before .before .before in
-    let t = not-false _ (e .if1 .left) in
-    (o .pre .0, o .pre .1, o .pre .3, stage-keeps _ (o .pre .0) _ (o .pre .1) (o .args .bit) _ (o .pre .3) (k .scan-at .ensures) t, o .pre .2,
-    place-at _ (o .pre .0) _ (o .pre .1) _ _ (o .pre .3) (k .scan-at .ensures) t (o .pre .2) _ (u .parity-count .ensures) (n .place-in .ensures) (c .before .before .j2 .given .1))
+    let t = not-false _ (e .if1 .left) in (
+      o .pre .0,
+      o .pre .1,
+      o .pre .3,
+      stage-keeps _ (o .pre .0) _ (o .pre .1) (o .args .bit) _ (o .pre .3) (k .scan-at .ensures) t,
+      o .pre .2,
+      place-at _ (o .pre .0) _ (o .pre .1) _ _ (o .pre .3) (k .scan-at .ensures) t (o .pre .2) _ (u .parity-count .ensures) (n .place-in .ensures) (c .before .before .j2 .given .1),
+    )
 
 same-length-3 : tie.Need-same-length-3
 same-length-3 c = search needs
@@ -91,10 +92,12 @@ move-on-requires c κs =
     let e = u .before .before in
     let k = e .before .before in
     let o = k .before .before .before in
-    let t = not-false _ (e .if1 .left) in
-    (o .pre .0, o .pre .1,
-    goes-on _ (o .pre .0) _ (o .pre .1) _ _ (o .pre .3) (k .scan-at .ensures) t
-    (place-at _ (o .pre .0) _ (o .pre .1) _ _ (o .pre .3) (k .scan-at .ensures) t (o .pre .2) _ (u .parity-count .ensures) (n .place-in .ensures) (c .before .enum-told .given .1)))
+    let t = not-false _ (e .if1 .left) in (
+      o .pre .0,
+      o .pre .1,
+      goes-on _ (o .pre .0) _ (o .pre .1) _ _ (o .pre .3) (k .scan-at .ensures) t
+          (place-at _ (o .pre .0) _ (o .pre .1) _ _ (o .pre .3) (k .scan-at .ensures) t (o .pre .2) _ (u .parity-count .ensures) (n .place-in .ensures) (c .before .enum-told .given .1)),
+    )
 
 same-length-4 : tie.Need-same-length-4
 same-length-4 c = search needs

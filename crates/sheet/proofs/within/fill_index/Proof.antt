@@ -4,11 +4,6 @@ use Rattle.sheet.specs.WithinLaws.{width-most, lent-most, fill-told}
 use borrow.Author.Needs.{needs}
 use Rattle.sheet.proofs.within.fill_index.Statement.{statement}
 use Rattle.sheet.proofs.within.fill_index.Tie as tie
-use Rattle.sheet.proofs.within.fill_index.Reads as reads
-use Rattle.sheet.proofs.within.fill_index.Lts as lts
-use Rattle.block.proofs.sum_of.Reads as sum-of-reads
-use Rattle.sheet.proofs.within.index_at.Reads as index-at-reads
-use Rattle.staged.proofs.fill.Reads as fill-reads
 
 index-at-requires : tie.Need-index-at-requires
 index-at-requires c κs = search needs

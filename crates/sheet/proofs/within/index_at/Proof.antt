@@ -4,9 +4,6 @@ use Rattle.sheet.specs.WithinLaws.{index-in}
 use borrow.Author.Needs.{needs}
 use Rattle.sheet.proofs.within.index_at.Statement.{statement}
 use Rattle.sheet.proofs.within.index_at.Tie as tie
-use Rattle.sheet.proofs.within.index_at.Reads as reads
-use Rattle.sheet.proofs.within.index_at.Lts as lts
-use Rattle.sheet.proofs.layout.batch_at.Reads as batch-at-reads
 
 batch-at-requires : tie.Need-batch-at-requires
 batch-at-requires c κs = search needs

@@ -5,11 +5,6 @@ use Rattle.sheet.specs.WithinLaws.{lent-long, name-told}
 use borrow.Author.Needs.{needs}
 use Rattle.sheet.proofs.within.name_index.Statement.{statement}
 use Rattle.sheet.proofs.within.name_index.Tie as tie
-use Rattle.sheet.proofs.within.name_index.Reads as reads
-use Rattle.sheet.proofs.within.name_index.Lts as lts
-use Rattle.block.proofs.sum_of.Reads as sum-of-reads
-use Rattle.sheet.proofs.within.index_at.Reads as index-at-reads
-use Rattle.staged.proofs.set_index.Reads as set-index-reads
 
 index-at-requires : tie.Need-index-at-requires
 index-at-requires c κs = search needs

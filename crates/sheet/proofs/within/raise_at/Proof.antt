@@ -6,11 +6,6 @@ use Rattle.sheet.specs.WithinLaws.{raise-asks, raise-told}
 use borrow.Author.Needs.{needs}
 use Rattle.sheet.proofs.within.raise_at.Statement.{statement}
 use Rattle.sheet.proofs.within.raise_at.Tie as tie
-use Rattle.sheet.proofs.within.raise_at.Reads as reads
-use Rattle.sheet.proofs.within.raise_at.Lts as lts
-use Rattle.sheet.proofs.layout.block_cells.Reads as block-cells-reads
-use Rattle.sheet.proofs.layout.parity_length.Reads as parity-length-reads
-use Rattle.staged.proofs.raise_parity.Reads as raise-parity-reads
 
 block-cells-requires : tie.Need-block-cells-requires
 block-cells-requires c κs = search needs

@@ -7,11 +7,6 @@ use Rattle.sheet.specs.WithinLaws.{below, full-most, own-block, own-slot
 use borrow.Author.Needs.{needs}
 use Rattle.sheet.proofs.within.raise_own.Statement.{statement}
 use Rattle.sheet.proofs.within.raise_own.Tie as tie
-use Rattle.sheet.proofs.within.raise_own.Reads as reads
-use Rattle.sheet.proofs.within.raise_own.Lts as lts
-use Rattle.sheet.proofs.layout.parity_length.Reads as parity-length-reads
-use Rattle.sheet.proofs.within.fill_index.Reads as fill-index-reads
-use Rattle.sheet.proofs.within.raise_at.Reads as raise-at-reads
 
 raise-at-requires : tie.Need-raise-at-requires
 raise-at-requires c κs =

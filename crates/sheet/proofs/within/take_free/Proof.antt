@@ -10,10 +10,6 @@ use Rattle.sheet.specs.WithinLaws.{below, indexAt, free-block, free-slot
 use borrow.Author.Needs.{needs}
 use Rattle.sheet.proofs.within.take_free.Statement.{statement}
 use Rattle.sheet.proofs.within.take_free.Tie as tie
-use Rattle.sheet.proofs.within.take_free.Reads as reads
-use Rattle.sheet.proofs.within.take_free.Lts as lts
-use Rattle.sheet.proofs.within.name_index.Reads as name-index-reads
-use Rattle.sheet.proofs.within.raise_at.Reads as raise-at-reads
 
 add-name-index : tie.Need-add-name-index
 add-name-index c = search needs
