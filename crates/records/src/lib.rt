@@ -8,7 +8,7 @@ ghost use Prim.Native.Nat.{_+_, _*_, _≤_, _<_};
 ghost use lib.ListN.{length, getD, take};
 ghost use Rattle.rules.specs.Accept.{mostBits};
 ghost use Rattle.rules.specs.Cells.{sum};
-ghost use Rattle.rules.specs.Records.{operation, cellsAsked, checkForm, checkUnused, checkHeld, heldAfter, eraseStep, readStep};
+ghost use Rattle.rules.specs.Records.{operation, cellsAsked, checkForm, checkUnused, checkHeld, heldAfter, eraseStep, changeStep, readStep, recordStep};
 ghost use Rattle.records.specs.Meaning.{stepOf, asked, checkUse, checkRecord, Front, BitsShown};
 
 // The most bits.
@@ -161,6 +161,18 @@ fn obey_erase(new: Settings, held: Settings, cells: &mut [u8]) -> Setup
     Setup { answer, settings }
 }
 
+// Operation 2: a bit of the sheet held is changed.
+fn obey_change(held: Settings, cells: &mut [u8], bit: usize) -> Setup
+    ensures { λ r. ⌜ stepOf r (now (cells .exit)) ≡ changeStep held (now (cells .entry)) bit ⌝ }
+{
+    let n = front(held.n, cells);
+    let answer = sheet::change(held, &mut cells[..n], bit);
+    Setup {
+        answer,
+        settings: held,
+    }
+}
+
 // Operation 3: the sheet held is read; the bits it has are shown after every record, so here its answer is enough.
 fn obey_read(held: Settings, cells: &[u8]) -> Setup
     ensures { λ r. ⌜ stepOf r (now (cells .entry)) ≡ readStep held (now (cells .entry)) ⌝ }
@@ -172,6 +184,26 @@ fn obey_read(held: Settings, cells: &[u8]) -> Setup
         answer,
         settings: held,
     }
+}
+
+// One record: every test for BadRecord first, then the work of its operation.
+pub fn obey(bytes: &[u8], held: Settings, cells: &mut [u8]) -> Setup
+    ensures { λ r. ⌜ stepOf r (now (cells .exit)) ≡ recordStep (now (bytes .entry)) held (now (cells .entry)) ⌝ }
+{
+    if let Check::Refuse(answer) = check_record(bytes, held) {
+        return Setup {
+            answer,
+            settings: held,
+        };
+    }
+    let op = byte_at(bytes, 0);
+    if op == 1 {
+        return obey_erase(asked_for(bytes), held, cells);
+    }
+    if op == 2 {
+        return obey_change(held, cells, byte_at(bytes, 6));
+    }
+    obey_read(held, cells)
 }
 
 // The sum of the levels of the sheet held.

@@ -1,0 +1,111 @@
+-- Every test first, and then the work of the operation.
+use mathlib.Core.Path.{sym, ap, _∙_}
+use Rattle.rules.specs.Records.{eraseStep, changeStep}
+use Rattle.rules.specs.declared.Settings.{Settings}
+use native.Mathlib.Omega.{arith}
+use Rattle.records.specs.Laws.{record-first, record-form, work-one, work-two, work-three}
+use borrow.Author.Needs.{needs}
+use Rattle.records.proofs.obey.Statement.{statement}
+use Rattle.records.proofs.obey.Tie as tie
+
+check-record-requires : tie.Need-check-record-requires
+check-record-requires c κs = search needs
+
+enum-known-answer : tie.Need-enum-known-answer
+enum-known-answer c = search needs
+
+returns : tie.Need-returns
+returns c =
+    let k = c .before .before .before in
+    sym (record-first _ _ _ (sym (k .check-record .ensures) ∙ c .before .answer .given .1))
+
+enum-told : tie.Need-enum-told
+enum-told c = search needs
+
+byte-at-requires : tie.Need-byte-at-requires
+byte-at-requires c κs =
+    let t = c in
+    omega (arith, record-form _ _ (sym (t .before .before .check-record .ensures) ∙ t .enum-told .given .1) .whole)
+
+asked-for-requires : tie.Need-asked-for-requires
+asked-for-requires c κs =
+    let t = c .before .before in
+    omega (arith, record-form _ _ (sym (t .before .before .check-record .ensures) ∙ t .enum-told .given .1) .whole)
+
+obey-erase-requires : tie.Need-obey-erase-requires
+obey-erase-requires c κs = search needs
+
+same-length : tie.Need-same-length
+same-length c = search needs
+
+returns-2 : tie.Need-returns-2
+returns-2 c =
+    let e = c .before .before in
+    let f = e .before .before in
+    let b = f .before .before in
+    let t = b .before in
+    let a = t .before .before .before .before .before .args in
+    let p = sym (t .before .before .check-record .ensures) ∙ t .enum-told .given .1 in
+    e .obey-erase .ensures ∙ ap (λ (s : Settings). eraseStep s (a .held) (a .cells .now)) (f .asked-for .ensures)
+    ∙ sym (record-first _ _ _ p ∙ work-one _ _ _ (sym (b .byte-at .ensures .0) ∙ f .before .if1 .taken))
+
+byte-at-requires-2 : tie.Need-byte-at-requires-2
+byte-at-requires-2 c κs =
+    let t = c .before .before .before .before in
+    omega (arith, record-form _ _ (sym (t .before .before .check-record .ensures) ∙ t .enum-told .given .1) .whole)
+
+obey-change-requires : tie.Need-obey-change-requires
+obey-change-requires c κs = search needs
+
+same-length-2 : tie.Need-same-length-2
+same-length-2 c = search needs
+
+returns-3 : tie.Need-returns-3
+returns-3 c =
+    let e = c .before .before in
+    let f = e .before in
+    let g = f .before .before in
+    let b = g .before .before in
+    let t = b .before in
+    let a = t .before .before .before .before .before .args in
+    let p = sym (t .before .before .check-record .ensures) ∙ t .enum-told .given .1 in
+    e .obey-change .ensures ∙ ap (changeStep (a .held) (a .cells .now)) (f .byte-at2 .ensures .0)
+    ∙ sym (record-first _ _ _ p ∙ work-two _ _ _ (sym (b .byte-at .ensures .0) ∙ g .if2 .taken))
+
+obey-read-requires : tie.Need-obey-read-requires
+obey-read-requires c κs = search needs
+
+same-length-3 : tie.Need-same-length-3
+same-length-3 c = search needs
+
+returns-4 : tie.Need-returns-4
+returns-4 c =
+    let g = c .before .before in
+    let b = g .before .before in
+    let t = b .before in
+    let a = t .before .before .before .before .before .args in
+    let p = sym (t .before .before .check-record .ensures) ∙ t .enum-told .given .1 in
+    let e = b .byte-at .ensures .0 in
+    c .obey-read .ensures
+    ∙ sym (record-first _ _ _ p ∙ work-three _ _ _ _ (record-form _ _ p .least) (λ q. g .before .if1 .left (e ∙ q)) (λ q. g .if2 .left (e ∙ q)))
+
+pub obey-spec : {M : Type 1} → statement M
+obey-spec =
+    tie.close
+    (tie.spec
+    check-record-requires
+    enum-known-answer
+    returns
+    enum-told
+    byte-at-requires
+    asked-for-requires
+    obey-erase-requires
+    same-length
+    returns-2
+    byte-at-requires-2
+    obey-change-requires
+    same-length-2
+    returns-3
+    obey-read-requires
+    same-length-3
+    returns-4)
