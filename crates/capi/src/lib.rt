@@ -4,7 +4,7 @@ ghost use mathlib.Core.Path.{_≡_};
 ghost use Prim.Native.Nat.{_≤_, _<_};
 ghost use lib.ListN.{length};
 ghost use Rattle.rules.specs.Answer.{numberOf, valueOf};
-ghost use Rattle.rules.specs.Calls.{settingsCall, eraseCall, readCall};
+ghost use Rattle.rules.specs.Calls.{settingsCall, eraseCall, readCall, changeCall};
 ghost use Rattle.capi.specs.Meaning.{recordOf, answerInto, recordInto};
 
 // The record that seven numbers stand for; any other count of numbers stands for the record of zeros.
@@ -92,6 +92,24 @@ pub extern "C" fn harpginger_read(
 {
     let settings = record_of(numbers);
     let answer = sheet::read(settings, sheet, out);
+    *value = answer.value();
+    answer.number()
+}
+
+// Change of one bit: the levels raised, or Erase. The answer's number; its value is written.
+#[no_mangle]
+pub extern "C" fn harpginger_change(
+    numbers: &[usize],
+    sheet: &mut [u8],
+    bit: usize,
+    value: &mut usize,
+) -> usize
+    ensures { λ r. ⌜ r ≡ numberOf (changeCall (recordOf (now (numbers .entry))) (now (sheet .entry)) bit .answer) ⌝ }
+    ensures { λ _. ⌜ now (value .exit) ≡ valueOf (changeCall (recordOf (now (numbers .entry))) (now (sheet .entry)) bit .answer) ⌝ }
+    ensures { λ _. ⌜ now (sheet .exit) ≡ changeCall (recordOf (now (numbers .entry))) (now (sheet .entry)) bit .sheet ⌝ }
+{
+    let settings = record_of(numbers);
+    let answer = sheet::change(settings, sheet, bit);
     *value = answer.value();
     answer.number()
 }
