@@ -1,3 +1,4 @@
+# shellcheck shell=bash
 # Sourced from the repository's root: the kit's tools, and a C file linked with the archive, which is for x86-64.
 kit=$(dirname "$(dirname "$(readlink -f "$(command -v rt)")")")
 own=$kit/on/$(uname -m)
