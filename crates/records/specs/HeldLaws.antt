@@ -1,14 +1,14 @@
 -- What the program holds after every record: no sheet, or one that every call accepts; and what it then prints of it. Assumes nothing.
-use mathlib.Core.Path.{_≡_, refl, sym, ap, subst, subst₂}
+use mathlib.Core.Path.{_≡_, refl, sym, ap, subst}
 use mathlib.Core.List.{List, [], _++_}
 use Prim.Native.Nat.{ℕ, zero, suc}
-use lib.ListN.{length, take, drop, replicate, length-replicate, take-append-drop}
+use lib.ListN.{take, drop, replicate, take-append-drop}
 use lib.Seq.{take-at}
 use Rattle.rules.specs.Cells.{sum}
 use Rattle.rules.specs.Accept.{refused, genuine?}
 use Rattle.rules.specs.AcceptLaws.{refused-forged}
 use Rattle.rules.specs.Calls.{bitsOf, Outcome, changeCall}
-use Rattle.rules.specs.Records.{operation, Step, keep, heldAfter, eraseStep, changeStep, passed, recordStep}
+use Rattle.rules.specs.Records.{operation, Step, heldAfter, eraseStep, changeStep, passed, recordStep}
 use Rattle.rules.specs.declared.Settings.{Settings}
 use Rattle.rules.specs.declared.Answer.{Answer}
 use Rattle.rules.specs.declared.Answer.the-variants.{Done, BadShape, BadLength, ShortOutput, BadBit, BadLevel, BadSheet, Erase, BadRecord}

@@ -1,7 +1,7 @@
 -- Laws of a record's tests and of its work. Assumes nothing.
 use mathlib.Core.Path.{_≡_, refl, sym, ap, _∙_}
 use mathlib.Core.List.{List, [], _∷_, _++_}
-use Prim.Native.Nat.{ℕ, zero, suc, _≤_, _<_}
+use Prim.Native.Nat.{ℕ, zero, suc, _≤_}
 use native.Mathlib.Nat.{le-refl, le-of-suc-le-suc, not-suc-le-zero}
 use native.Mathlib.Decide.{ℕ-discrete, decLe, decLt}
 use native.Mathlib.Omega.{arith}
@@ -10,7 +10,7 @@ use lib.Seq.{take-all, take-length, drop-length, length-take-le}
 use Rattle.rules.specs.SearchLaws.{pick-elim}
 use Rattle.rules.specs.Calls.{ask, andThen, Outcome, eraseCall, changeCall}
 use Rattle.rules.specs.Promises.{ErasePromise, ChangePromise}
-use Rattle.rules.specs.Records.{operation, kindAsked, bitsAsked, topAsked, cellsAsked, bitNamed, checkForm, checkUnused, checkHeld, Step, keep, passed, byOperation, recordStep, heldAfter, eraseStep, changeStep, readStep}
+use Rattle.rules.specs.Records.{operation, kindAsked, bitsAsked, topAsked, cellsAsked, bitNamed, checkForm, checkUnused, checkHeld, Step, passed, byOperation, recordStep, heldAfter, eraseStep, changeStep, readStep}
 use Rattle.rules.specs.declared.Settings.{Settings}
 use Rattle.rules.specs.declared.Answer.{Answer}
 use Rattle.rules.specs.declared.Answer.the-variants.{BadRecord}

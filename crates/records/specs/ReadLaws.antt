@@ -1,10 +1,9 @@
 -- Laws of a reading of the sheet held: its answer is that of k places, and its bits are the first k places. Assumes nothing.
 use mathlib.Core.Path.{_≡_, refl, sym, ap, subst, _∙_}
-use mathlib.Core.List.{List, [], _++_}
+use mathlib.Core.List.{List, _++_}
 use mathlib.Core.Logic.{⊎-elim}
-use Prim.Native.Nat.{ℕ, suc, _+_, _≤_, _<_}
-use native.Mathlib.Nat.{le-refl}
-use native.Mathlib.Decide.{ℕ-discrete, decLe}
+use Prim.Native.Nat.{ℕ, _+_, _≤_}
+use native.Mathlib.Decide.{decLe}
 use native.Mathlib.Omega.{arith}
 use lib.ListN.{length, take, drop, replicate, length-replicate, length-append}
 use lib.Pow.{pow-mono}
@@ -14,7 +13,7 @@ use Rattle.rules.specs.AcceptLaws.{genuine-facts}
 use Rattle.rules.specs.Answer.{numberOf}
 use Rattle.rules.specs.Calls.{readBit, bitsOf, ask, andThen, checkLength, checkOutput, checkLevels, checkSheet, readChecks, Reading, reading, readCall}
 use Rattle.rules.specs.Promises.{readOut, ReadPromise}
-use Rattle.rules.specs.Records.{readStep, Step}
+use Rattle.rules.specs.Records.{readStep}
 use Rattle.rules.specs.declared.Settings.{Settings}
 use Rattle.rules.specs.declared.Answer.{Answer}
 use Rattle.rules.specs.declared.Answer.the-variants.{Done, BadShape, BadLength, ShortOutput, BadBit, BadLevel, BadSheet, Erase, BadRecord}

@@ -1,6 +1,5 @@
 -- The bit byte is 0 or not.
 use mathlib.Core.Path.{sym}
-use native.Mathlib.Omega.{arith}
 use Rattle.records.specs.Laws.{unused-tested, tested-kept, tested-broken}
 use borrow.Author.Needs.{needs}
 use Rattle.records.proofs.check_unused.Statement.{statement}

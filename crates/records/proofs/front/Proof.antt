@@ -1,7 +1,6 @@
 -- n is cut to the length.
 use native.Mathlib.Omega.{arith}
 use Rattle.records.specs.Laws.{front-part, front-all}
-use borrow.Author.Needs.{needs}
 use Rattle.records.proofs.front.Statement.{statement}
 use Rattle.records.proofs.front.Tie as tie
 
