@@ -8,7 +8,15 @@
 enum { PENS = 4, TOP = 2, CELLS = 28 };
 
 static const char *const names[] = {
-    "Done", "BadShape", "BadLength", "ShortOutput", "BadBit", "BadLevel", "BadSheet", "Erase", "BadRecord"};
+    [HARPGINGER_DONE] = "Done",
+    [HARPGINGER_BAD_SHAPE] = "BadShape",
+    [HARPGINGER_BAD_LENGTH] = "BadLength",
+    [HARPGINGER_SHORT_OUTPUT] = "ShortOutput",
+    [HARPGINGER_BAD_BIT] = "BadBit",
+    [HARPGINGER_BAD_LEVEL] = "BadLevel",
+    [HARPGINGER_BAD_SHEET] = "BadSheet",
+    [HARPGINGER_ERASE] = "Erase",
+    [HARPGINGER_BAD_RECORD] = "BadRecord"};
 
 static size_t record[HARPGINGER_RECORD];
 static uint8_t sheet[CELLS];
@@ -74,7 +82,7 @@ static size_t settle(size_t cells, size_t *guarantee) {
 }
 
 int main(void) {
-    size_t guarantee, pen = 0;
+    size_t guarantee, answer, pen = 0;
     settle(CELLS - 1, &guarantee);
     if (settle(CELLS, &guarantee) != HARPGINGER_DONE) return 1;
     if (harpginger_erase(record, HARPGINGER_RECORD, sheet, CELLS, &guarantee) != HARPGINGER_DONE) return 1;
@@ -82,8 +90,11 @@ int main(void) {
     print_sheet();
 
     work();
-    while (flip("flip", pen) == HARPGINGER_DONE) pen = (pen + 1) % PENS;
+    do {
+        answer = flip("flip", pen);
+        pen = (pen + 1) % PENS;
+    } while (answer == HARPGINGER_DONE);
 
-    printf("%zu changes were guaranteed, %zu were accepted before Erase\n", guarantee, accepted);
-    return accepted >= guarantee ? 0 : 1;
+    printf("%zu changes were guaranteed, %zu were accepted before %s\n", guarantee, accepted, names[answer]);
+    return answer == HARPGINGER_ERASE && accepted >= guarantee ? 0 : 1;
 }

@@ -53,30 +53,32 @@ enum harpginger_answer {
    Answers Done or BadShape.
    Done writes the record to `numbers`; its value is the guarantee: how many changes, at least, an
    erased sheet of these settings accepts before the first Erase.
-   BadShape writes the record of zeros; or, where `numbers_length` is not HARPGINGER_RECORD,
-   nothing to `numbers`. */
+   BadShape writes the value place and the record of zeros; or, where `numbers_length` is not
+   HARPGINGER_RECORD, the value place only. */
 size_t harpginger_settings(size_t kind, size_t k, size_t top, size_t n,
                            size_t *numbers, size_t numbers_length,
                            size_t *value);
 
 /* Erases a sheet: Done sets all n cells to 0, whatever they were; its value is the guarantee.
-   Answers Done, BadShape or BadLength. */
+   Answers Done, BadShape or BadLength. A refusal writes the value place only. */
 size_t harpginger_erase(const size_t *numbers, size_t numbers_length,
                         uint8_t *sheet, size_t sheet_length,
                         size_t *value);
 
 /* Reads the bits: Done writes k places of `out`, each 0 or 1, bit 0 first, and none after them;
    its value is how many bits are 1. The sheet is only read.
-   Answers Done, BadShape, BadLength, ShortOutput, BadLevel or BadSheet. */
+   Answers Done, BadShape, BadLength, ShortOutput, BadLevel or BadSheet. A refusal writes the value
+   place only. */
 size_t harpginger_read(const size_t *numbers, size_t numbers_length,
                        const uint8_t *sheet, size_t sheet_length,
                        uint8_t *out, size_t out_length,
                        size_t *value);
 
 /* Changes one bit: Done flips bit `bit` and no other, and lowers no cell; its value is how many
-   levels were raised, over all cells. After Erase the sheet still holds its bits, and another bit
-   may still find a place.
-   Answers Done, BadShape, BadLength, BadBit, BadLevel, BadSheet or Erase. */
+   levels were raised, over all cells.
+   Answers Done, BadShape, BadLength, BadBit, BadLevel, BadSheet or Erase. A refusal, Erase too,
+   writes the value place only: the sheet keeps its bits, and after Erase another bit may still
+   find a place. */
 size_t harpginger_change(const size_t *numbers, size_t numbers_length,
                          uint8_t *sheet, size_t sheet_length,
                          size_t bit,

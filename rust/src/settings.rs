@@ -16,7 +16,7 @@ use crate::Answer;
 pub enum Kind {
     /// Index-less: 2 to 64 bits, with bits times top level even.
     Plain,
-    /// Staged indexing: 4, 8, 16, 32 or 64 bits. More changes than plain on a big sheet.
+    /// Staged indexing: 4, 8, 16, 32 or 64 bits.
     Staged,
 }
 
