@@ -15,13 +15,7 @@ use Rattle.rules.specs.Stage.{closed, liveWeights, recordAll, recordedEntries}
 use Rattle.rules.specs.Staged.{liveCount, moveTo, parityCount, parityLength}
 use Rattle.moving.specs.Meaning.{batchAfter, moved}
 use Rattle.laws.specs.Parity.{count-width}
-
--- blocks are cut from their own cells
-chop-take : (w n c : ℕ) (xs : List ℕ) → n * w ≤ c → chop w n (take c xs) ≡ chop w n xs
-chop-take w zero c xs h = refl
-chop-take w (suc n) c xs h =
-    ap₂ (λ (b : List ℕ) (bs : List (List ℕ)). b ∷ bs) (take-take w c xs (omega arith))
-    (ap (chop w n) (drop-take w (c - w) c xs (omega arith)) ∙ chop-take w n (c - w) (drop w xs) (omega arith))
+use Rattle.laws.specs.Parts.{chop-take}
 
 module _ (s m L w d : ℕ) (vs f : List ℕ) (h : d < s - 1) where
   -- the parity blocks are cut from the m blocks' own cells

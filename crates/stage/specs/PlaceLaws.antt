@@ -4,6 +4,7 @@ use mathlib.Core.List.{List, [], _∷_, map}
 use mathlib.Core.Path.{_≡_, _∙_, ap, ap₂, refl, subst, sym}
 use Prim.Native.Nat.{ℕ, zero, suc, _-_, _*_, _%_, _≤_, _<_}
 use native.Mathlib.Decide.{ℕ-discrete, decLt}
+use native.Mathlib.Nat.{le-refl}
 use native.Mathlib.Omega.{arith}
 use lib.ListN.{List·getD-map, drop, getD, length, length-drop, length-map, set, take}
 use lib.Seq.{ext-getD, length-take-le}
@@ -77,11 +78,11 @@ module _ (W L i : ℕ) (bs : List (List ℕ)) (es : List Entry) (as-many : lengt
 module _ (w n : ℕ) (xs : List ℕ) (inside : n * w ≤ length xs) where
   -- the blocks put together are the cells that they take up
   blocks-kept : join (chop w n xs) ≡ take (n * w) xs
-  blocks-kept = ap join (sym (chop-take w n xs)) ∙ join-chop w n (take (n * w) xs) (length-take-le (n * w) xs inside)
+  blocks-kept = ap join (sym (chop-take w n (n * w) xs (le-refl (n * w)))) ∙ join-chop w n (take (n * w) xs) (length-take-le (n * w) xs inside)
 
   -- with one block set, they are the cells with that block stored
   blocks-set : (j : ℕ) (b : List ℕ) → j < n → join (set (chop w n xs) j b) ≡ store w (take (n * w) xs) j b
-  blocks-set j b h = ap (λ (bs : List (List ℕ)). join (set bs j b)) (sym (chop-take w n xs)) ∙ join-set w n (take (n * w) xs) j b (length-take-le (n * w) xs inside) h
+  blocks-set j b h = ap (λ (bs : List (List ℕ)). join (set bs j b)) (sym (chop-take w n (n * w) xs (le-refl (n * w)))) ∙ join-set w n (take (n * w) xs) j b (length-take-le (n * w) xs inside) h
 
 -- the cells of the entries are the index blocks again
 entries-stored : (L w q : ℕ) (batch : List ℕ) → q * w ≤ length batch → Low L batch → map (entryCells L w) (entries L w q batch) ≡ chop w q batch
