@@ -1,21 +1,21 @@
--- Laws of sums, of the greatest level, of the first cell above a level, of cells that are all 0, and of the sheet from a block on. Assumes nothing.
+-- Laws of sums, of the greatest and the least level, of the first cell above a level, of cells that are all 0, and of the sheet from a block on. Assumes nothing.
 use mathlib.Core.Bool.{true, false}
 use mathlib.Core.List.{List, [], _∷_, _++_, append-nil}
 use mathlib.Core.Path.{_≡_, _∙_, ap, ap₂, refl, subst, sym}
-use Prim.Native.Nat.{ℕ, zero, suc, _+_, _-_, _*_, _≤_, _<_, max}
+use Prim.Native.Nat.{ℕ, zero, suc, _+_, _-_, _*_, _≤_, _<_, max, min}
 use native.Mathlib.Decide.{decLt}
 use native.Mathlib.Numerals.{add-one}
 use native.Mathlib.Omega.{arith}
 use borrow.Author.Tests.{eq-eqb, ne-eqb}
 use lib.Dec.{eqb}
 use lib.ListN.{length, getD, take, drop, replicate, length-drop, drop-of-length-le}
-use lib.Seq.{take-suc, take-all, drop-drop}
+use lib.Seq.{take-suc, take-all, drop-drop, length-take-le}
 use Rattle.laws.specs.Lists.{low-all, low-at, sum-part}
 use Rattle.rules.specs.Calls.{levelCheck}
 use Rattle.rules.specs.Cells.{Low, block, firstAbove, same?, store, sum}
 use Rattle.rules.specs.Search.{Found, nowhere, pick}
 use Rattle.rules.specs.SearchLaws.{First, miss, first-eq, first-is, pick-elim}
-use Rattle.block.specs.Meaning.{asFound, checkOf, greatestOf}
+use Rattle.block.specs.Meaning.{asFound, checkOf, greatestOf, leastOf}
 use Rattle.block.specs.declared.Level.{Level}
 use Rattle.block.specs.declared.Level.the-variants.{Above, Fine}
 
@@ -56,7 +56,55 @@ unfolding greatestOf
 low-greatest L [] h = omega arith
 low-greatest L (x ∷ s) h = omega (arith, low-greatest L s (h .1))
 
--- ---- the first cell above L
+-- ---- the least level
+
+-- it is a level
+least-small : (s : List ℕ) → leastOf s ≤ 255
+unfolding leastOf
+least-small [] = omega arith
+least-small (x ∷ s) = omega (arith, least-small s)
+
+-- the least of two runs
+least-append : (s t : List ℕ) → leastOf (s ++ t) ≡ min (leastOf s) (leastOf t)
+unfolding leastOf
+least-append [] t = omega (arith, least-small t)
+least-append (x ∷ s) t = omega (arith, least-append s t)
+
+-- what a loop takes in: one more cell
+pub least-take : (s : List ℕ) (i : ℕ) → i < length s → getD s i 0 ≤ 255 → leastOf (take (i + 1) s) ≡ min (leastOf (take i s)) (getD s i 0)
+unfolding leastOf
+least-take s i h b =
+    ap (λ (n : ℕ). leastOf (take n s)) (add-one i)
+    ∙ ap leastOf (take-suc s i 0 h)
+    ∙ least-append (take i s) (getD s i 0 ∷ [])
+    ∙ omega arith
+
+-- the first cells of a run are no lower
+least-first : (n : ℕ) (s : List ℕ) → leastOf s ≤ leastOf (take n s)
+unfolding leastOf
+least-first zero s = least-small s
+least-first (suc n) [] = omega arith
+least-first (suc n) (x ∷ s) = omega (arith, least-first n s)
+
+-- nor are the last
+least-last : (n : ℕ) (s : List ℕ) → leastOf s ≤ leastOf (drop n s)
+unfolding leastOf
+least-last zero s = omega arith
+least-last (suc n) [] = omega arith
+least-last (suc n) (x ∷ s) = omega (arith, least-last n s)
+
+-- a run weighs at least its length times a level that no cell is below
+least-weight : (L : ℕ) (s : List ℕ) → L ≤ leastOf s → length s * L ≤ sum s
+unfolding leastOf
+least-weight L [] h = omega arith
+least-weight L (x ∷ s) h = omega (arith, least-weight L s (omega arith))
+
+-- and so do any n of its cells
+pub part-weight : (L a n : ℕ) (s : List ℕ) → L ≤ leastOf s → a + n ≤ length s → n * L ≤ sum (take n (drop a s))
+part-weight L a n s h l =
+    let e : length (take n (drop a s)) ≡ n = length-take-le n (drop a s) (omega (arith, length-drop a s)) in
+    let g : length (take n (drop a s)) * L ≤ sum (take n (drop a s)) = least-weight L (take n (drop a s)) (omega (arith, least-last a s, least-first n (drop a s))) in
+    rw e at g
 
 -- a search that found nothing
 none-there : {P : ℕ → Type 0} {m : ℕ} → First P m nowhere → (c : ℕ) → c < m → ¬ (P c)

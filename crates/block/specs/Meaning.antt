@@ -1,7 +1,7 @@
 -- What the answers on one block and on runs of cells mean, as definitions of the rules. Assumes nothing.
 use mathlib.Core.Bool.{Bool, true, false}
 use mathlib.Core.List.{List, [], _∷_}
-use Prim.Native.Nat.{ℕ, _-_, _<_, max}
+use Prim.Native.Nat.{ℕ, _-_, _<_, max, min}
 use native.Mathlib.Decide.{decLt}
 use lib.ListN.{length, getD, take, drop}
 use Rattle.laws.specs.Rise.{cellBefore}
@@ -22,6 +22,11 @@ use Rattle.block.specs.declared.Start.the-variants.{At, Nowhere}
 unfoldable pub greatestOf : List ℕ → ℕ
 greatestOf [] = 0
 greatestOf (x ∷ xs) = max x (greatestOf xs)
+
+-- the least level, 255 where there is no cell
+unfoldable pub leastOf : List ℕ → ℕ
+leastOf [] = 255
+leastOf (x ∷ xs) = min x (leastOf xs)
 
 -- the place that a look at the levels found
 abbrev pub asFound : Level → Found

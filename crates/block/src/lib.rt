@@ -7,7 +7,7 @@ ghost use lib.ListN.{length, take, drop, replicate};
 ghost use Rattle.rules.specs.Search.{pick};
 ghost use Rattle.rules.specs.Cells.{sum, Low, firstAbove, same?, block, store};
 ghost use Rattle.rules.specs.Block.{ramp, cycle, stateOf};
-ghost use Rattle.block.specs.Meaning.{greatestOf, asFound, asPlace, startOf, asState};
+ghost use Rattle.block.specs.Meaning.{greatestOf, leastOf, asFound, asPlace, startOf, asState};
 
 // What a look at the levels finds: none above the top level, or the first cell that is.
 pub enum Level {
@@ -52,6 +52,22 @@ fn greatest(s: &[u8]) -> u8
     while i < s.len() {
         let x = s[i];
         if best < x {
+            best = x;
+        }
+        i += 1;
+    }
+    best
+}
+
+// The least level, 255 where there is no cell.
+pub fn least(s: &[u8]) -> u8
+    ensures { λ r. ⌜ r ≡ leastOf (now (s .entry)) ⌝ }
+{
+    let mut best: u8 = 255;
+    let mut i: usize = 0;
+    while i < s.len() {
+        let x = s[i];
+        if x < best {
             best = x;
         }
         i += 1;

@@ -1,10 +1,10 @@
 -- How many blocks of a list aren't full: block by block, and in what a loop over the blocks counts. Assumes nothing.
 use mathlib.Core.List.{List, [], _++_, _∷_}
-use mathlib.Core.Logic.{_≢_}
-use mathlib.Core.Path.{_∙_, _≡_, ap, refl, sym}
-use Prim.Native.Nat.{_*_, _+_, _≤_, suc, zero, ℕ}
+use mathlib.Core.Logic.{_≢_, ⊎-elim}
+use mathlib.Core.Path.{_∙_, _≡_, ap, refl, subst, sym}
+use Prim.Native.Nat.{_*_, _+_, _<_, _≤_, suc, zero, ℕ}
 use native.Mathlib.Decide.{ℕ-discrete}
-use native.Mathlib.Nat.{zero-mul}
+use native.Mathlib.Nat.{eq-or-lt-of-le, le-of-suc-le-suc, zero-mul}
 use native.Mathlib.Numerals.{add-one}
 use native.Mathlib.Omega.{arith}
 use lib.ListN.{drop, length, take}
@@ -54,6 +54,14 @@ live-append W (d ∷ ds) bs = go (ℕ-discrete (sum d) W) (live-append W ds bs)
     go : Dec (sum d ≡ W) → live W (ds ++ bs) ≡ live W ds + live W bs → live W (d ∷ (ds ++ bs)) ≡ live W (d ∷ ds) + live W bs
     go (yes e) r = omega (arith, live-full W d (ds ++ bs) e, live-full W d ds e)
     go (no e) r = omega (arith, live-more W d (ds ++ bs) e, live-more W d ds e)
+
+-- what one more block keeps, a run of blocks keeps
+pub run-keeps : (P : ℕ → Type 0) (a b : ℕ) → a ≤ b → ((x : ℕ) → a ≤ x → x < b → P x → P (x + 1)) → P a → P b
+run-keeps P a zero h s p = let e : a ≡ 0 = omega arith in subst P e p
+run-keeps P a (suc b) h s p =
+    ⊎-elim (λ e. subst P e p)
+    (λ l. subst P (add-one b) (s b (le-of-suc-le-suc l) (omega arith) (run-keeps P a b (le-of-suc-le-suc l) (λ x m n. s x m (omega arith)) p)))
+    (eq-or-lt-of-le h)
 
 -- what a loop over the blocks counts
 pub count-full : (W w j : ℕ) (xs : List ℕ) → sum (block w xs j) ≡ W → length (liveWeights W (chop w (j + 1) xs)) ≡ length (liveWeights W (chop w j xs))

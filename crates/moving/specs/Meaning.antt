@@ -25,6 +25,7 @@ pub record Apart (a len b w : ℕ) (f : List ℕ) : Type 0 where
 pub record Roomy (at len count w k L : ℕ) (f : List ℕ) : Type 0 where
   pub some : 1 ≤ k
   pub few : k ≤ 64
+  pub long : 1 ≤ len
   pub small : len ≤ 65536
   pub ordered : count * len ≤ at
   pub inside : at + 2 * (k - 1) * w ≤ length f

@@ -21,6 +21,7 @@ unfolding live greatestOf ℕ-discrete
 marked-roomy = record {
   some = omega arith;
   few = omega arith;
+  long = omega arith;
   small = omega arith;
   ordered = omega arith;
   inside = omega arith;

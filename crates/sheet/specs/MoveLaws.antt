@@ -6,6 +6,7 @@ use native.Mathlib.Decide.{decLe, ℕ-discrete}
 use native.Mathlib.Nat.{le-refl}
 use native.Mathlib.Omega.{arith}
 use lib.ListN.{length, getD, take, drop, replicate, length-drop}
+use lib.Pow.{pow-pos}
 use lib.Seq.{length-take-le}
 use Rattle.rules.specs.Search.{pick, Found, at, nowhere, Result, done}
 use Rattle.rules.specs.SearchLaws.{pick-elim}
@@ -92,11 +93,11 @@ pub record Stuck (r : Settings) (f : List ℕ) (i d : ℕ) (ws : List ℕ) : Typ
 module _ (r : Settings) (p : StagedFacts r) (f : List ℕ) (v : Levelled r f) where
   -- what the search for a later stage asks for
   pub later-asks : (d c len count : ℕ) → d ≤ r .s - 1 → c ≡ r .m * 2 ^ r .s → len ≡ parityLength d → count ≡ parityCount (r .s) (r .m) d
-      → (len ≡ parityLength d) × (count * len ≤ length (take c f)) × (len ≤ 65536) × (count * len ≤ 65536)
+      → (len ≡ parityLength d) × (count * len ≤ length (take c f)) × (len ≤ 65536) × (length (take c f) ≤ 65536) × Low (r .top) (take c f)
   later-asks d c len count h e₁ e₂ e₃ =
       let l : length (take c f) ≡ c = length-take-le c f (cells-in r p f v c e₁) in
       let q : count * len ≡ r .m * 2 ^ r .s = ap₂ (λ (x y : ℕ). x * y) e₃ e₂ ∙ parity-cells r p d h in
-      (e₂, omega arith, omega (arith, length-most r p d h, staged-bits r p .1), omega (arith, cells-most r p))
+      (e₂, omega arith, omega (arith, length-most r p d h, staged-bits r p .1), omega (arith, cells-most r p), low-take (r .top) c f (v .low))
 
   -- and what it finds
   pub later-same : (d c count : ℕ) → d ≤ r .s - 1 → c ≡ r .m * 2 ^ r .s → count ≡ parityCount (r .s) (r .m) d
@@ -124,6 +125,7 @@ module _ (r : Settings) (p : StagedFacts r) (f : List ℕ) (v : Levelled r f) wh
       record {
         some = omega (arith, staged-bits r p .0);
         few = omega (arith, staged-bits r p .1);
+        long = omega (arith, pow-pos e);
         small = omega (arith, length-most r p e h, staged-bits r p .1);
         ordered = omega arith;
         inside = omega (arith, batch-inside r p e (g .stage), v .long);

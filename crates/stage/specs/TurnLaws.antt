@@ -10,12 +10,14 @@ use native.Mathlib.Numerals.{add-one}
 use native.Mathlib.Omega.{arith}
 use lib.ListN.{drop, getD, length, length-append, length-map, set}
 use Rattle.laws.specs.Chop.{length-chop}
-use Rattle.laws.specs.Live.{chop-snoc, count-more}
+use Rattle.laws.specs.Live.{chop-snoc, count-more, run-keeps}
 use Rattle.laws.specs.Parts.{chop-add, map-append}
 use Rattle.rules.specs.Batches.{entryOf}
-use Rattle.rules.specs.Cells.{block, chop, sum}
+use Rattle.rules.specs.Cells.{Low, block, chop, sum}
 use Rattle.rules.specs.SearchLaws.{pick-yes}
 use Rattle.rules.specs.Stage.{Entry, Names, StageOk, closed, index, indexes, liveWeights}
+use Rattle.staged.specs.Laws.{past-full}
+use Rattle.staged.specs.Meaning.{FullFrom}
 use Rattle.stage.specs.Laws.{home-nowhere, home-there, passed-first-free, passed-free, passed-full, passed-none, passed-own}
 use Rattle.stage.specs.LiveLaws.{indexes-append, names-at, names-once, weights-append}
 use Rattle.stage.specs.Meaning.{ClosedFrom, NextIndex, Passed, ScanAt, StageScanned, Turn, begun, broken, endedBy, entries, entryAt, next-at, next-nowhere, withFree}
@@ -86,11 +88,7 @@ module _ (k W none : ℕ) where
 
   -- full index blocks are passed
   entries-passed : (L w : ℕ) (batch : List ℕ) (bs : List (List ℕ)) (s : StageScan) (x y : ℕ) → x ≤ y → ClosedFrom L w batch x y → Passed k W none bs (entries L w x batch) s → Passed k W none bs (entries L w y batch) s
-  entries-passed L w batch bs s x zero h c g = let e : x ≡ 0 = omega arith in subst (λ (n : ℕ). Passed k W none bs (entries L w n batch) s) e g
-  entries-passed L w batch bs s x (suc y) h c g =
-      ⊎-elim (λ e. subst (λ (n : ℕ). Passed k W none bs (entries L w n batch) s) e g)
-      (λ l. subst (λ (n : ℕ). Passed k W none bs (entries L w n batch) s) (add-one y)
-      (entry-passed L w batch bs s y (entries-passed L w batch bs s x y (le-of-suc-le-suc l) (λ z a b. c z a (omega arith)) g) (c y (le-of-suc-le-suc l) (omega arith)))) (eq-or-lt-of-le h)
+  entries-passed L w batch bs s x y h c g = run-keeps (λ n. Passed k W none bs (entries L w n batch) s) x y h (λ z a b p. entry-passed L w batch bs s z p (c z a b)) g
 
 -- ---- the index block found
 
@@ -168,6 +166,13 @@ module _ {k W none len : ℕ} {cells : List ℕ} {L w : ℕ} {batch : List ℕ} 
       subst (StageScanned k W (chop len none cells) (entries L w q batch)) (sym p)
       (scanned-right k W none (chop len none cells) (entries L w q batch) s (length-chop len none cells)
       (subst (λ (i : ℕ). Passed k W none (chop len i cells) (entries L w q batch) s) n (moved (h .in-batch) (omega arith) c .passed)))
+
+-- full parity blocks are passed in runs
+pub turn-past : {k none len : ℕ} {cells : List ℕ} {L w : ℕ} {batch : List ℕ} {q j x : ℕ} {s : StageScan} → Low L cells → ScanAt k (len * L) none len cells L w batch q j x s
+    → {r : ℕ} → j ≤ r → r ≤ none → FullFrom len L cells j r → ScanAt k (len * L) none len cells L w batch q r x s
+turn-past {k} {none} {len} {cells} {L} {w} {batch} {q} {j} {x} {s} l h {r} a b f =
+    run-keeps (λ y. ScanAt k (len * L) none len cells L w batch q y x s) j r a
+    (λ y c d g. turn-full g {v = sum (block len cells y)} (omega arith) refl (past-full len L j r cells l f y c d)) h
 
 module _ {k W none len : ℕ} {cells : List ℕ} {L w : ℕ} {batch : List ℕ} {q j x u v : ℕ} {s : StageScan} (t : Turn k W none len cells L w batch q j x u v s) where
   -- the turn ends with both blocks passed

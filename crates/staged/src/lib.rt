@@ -6,8 +6,9 @@ ghost use Rattle.rules.specs.Cells.{Low, block, store, chop};
 ghost use Rattle.rules.specs.Stage.{raise, liveWeights};
 ghost use Rattle.rules.specs.Staged.{parityLength};
 ghost use Rattle.rules.specs.Batches.{digits, entryOf};
-ghost use Rattle.staged.specs.Meaning.{asEntry, asFound, stageLeft, asLater, laterFrom};
+ghost use Rattle.staged.specs.Meaning.{FullFrom, asEntry, asFound, stageLeft, asLater, laterFrom};
 use block::all_zero;
+use block::least;
 use block::sum_of;
 
 // What an index block says: its number, or that it is full.
@@ -86,20 +87,47 @@ pub fn raise_parity(cells: &mut [u8], len: usize, j: usize, top: u8)
     raise_one(&mut cells[a..e], top);
 }
 
-// How many of the first `count` blocks of `len` cells are live: a block is full if its weight is `full`.
-pub fn count_live(cells: &[u8], len: usize, count: usize, full: usize) -> usize
-    requires { ⌜ (count * len ≤ length (now cells)) × (1 ≤ len) × (len ≤ 65536) × (count ≤ 65536) ⌝ }
-    ensures { λ r. ⌜ r ≡ length (liveWeights full (chop len count (now (cells .entry)))) ⌝ }
+// Past whole runs of 64 cells at the top level: the number of the block, from a number on, to look at next. Every block passed over is full.
+pub fn past_full(cells: &[u8], len: usize, count: usize, from: usize, top: u8) -> usize
+    requires { ⌜ (1 ≤ len) × (count * len ≤ length (now cells)) × (length (now cells) ≤ 65536) × (from ≤ count) ⌝ }
+    ensures { λ r. ⌜ (from ≤ r) × (r ≤ count) × FullFrom len top (now (cells .entry)) from r ⌝ }
 {
+    if 64 < len {
+        return from;
+    }
+    let step = 64 / len;
+    let mut j = from;
+    while j + step <= count {
+        let a = j * len;
+        let e = a + 64;
+        if cells.len() < e {
+            return j;
+        }
+        if least(&cells[a..e]) < top {
+            return j;
+        }
+        j += step;
+    }
+    j
+}
+
+// How many of the first `count` blocks of `len` cells are live.
+pub fn count_live(cells: &[u8], len: usize, count: usize, top: u8) -> usize
+    requires { ⌜ (count * len ≤ length (now cells)) × (1 ≤ len) × (len ≤ 65536) × (length (now cells) ≤ 65536) × Low top (now cells) ⌝ }
+    ensures { λ r. ⌜ r ≡ length (liveWeights (len * top) (chop len count (now (cells .entry)))) ⌝ }
+{
+    let full = len * top as usize;
     let mut live: usize = 0;
     let mut j: usize = 0;
     while j < count {
         let a = j * len;
         let e = a + len;
-        if sum_of(&cells[a..e]) != full {
-            live += 1;
-        }
         j += 1;
+        if sum_of(&cells[a..e]) == full {
+            j = past_full(cells, len, count, j, top);
+            continue;
+        }
+        live += 1;
     }
     live
 }
@@ -135,7 +163,7 @@ pub enum Later {
 
 // The first later stage in which at least k parity blocks are live: blocks half as long are tried each time.
 pub fn later_stage(cells: &[u8], left: usize, len: usize, count: usize, k: usize, top: u8) -> Later
-    requires { ⌜ (len ≡ parityLength left) × (count * len ≤ length (now cells)) × (len ≤ 65536) × (count * len ≤ 65536) ⌝ }
+    requires { ⌜ (len ≡ parityLength left) × (count * len ≤ length (now cells)) × (len ≤ 65536) × (length (now cells) ≤ 65536) × Low top (now cells) ⌝ }
     ensures { λ r. ⌜ asLater r ≡ laterFrom k top count left (now (cells .entry)) ⌝ }
 {
     if len < 4 {
@@ -143,7 +171,7 @@ pub fn later_stage(cells: &[u8], left: usize, len: usize, count: usize, k: usize
     }
     let half = len / 2;
     let blocks = 2 * count;
-    if count_live(cells, half, blocks, half * top as usize) >= k {
+    if count_live(cells, half, blocks, top) >= k {
         return Later::Left(left - 1);
     }
     later_stage(cells, left - 1, half, blocks, k, top)

@@ -7,7 +7,7 @@ use lib.ListN.{length, take, length-drop, length-take}
 use Rattle.laws.specs.Splice.{part}
 use Rattle.rules.specs.Cells.{sum}
 use Rattle.moving.specs.Meaning.{Going}
-use Rattle.moving.specs.GoingLaws.{block-inside, going-first, going-full, going-live, index-blank, index-room, live-asks, met-few, rest-room, same-long}
+use Rattle.moving.specs.GoingLaws.{block-inside, going-first, going-full, going-live, going-past, index-blank, index-room, live-asks, met-few, rest-room, same-long}
 use Rattle.moving.specs.EndLaws.{all-met, move-done, move-sum}
 use Rattle.moving.specs.RecordLaws.{full-small}
 use borrow.Author.Needs.{needs}
@@ -60,16 +60,24 @@ sum-of-requires c κs =
     let a = o .before .before .before .args in
     simp (length-take, length-drop) (omega (arith, inside o, long o))
 
+past-full-requires : tie.Need-past-full-requires Inv-loop μ-loop
+past-full-requires c κs =
+    let o = c .before .before .before .before .before in
+    let g = o .before .before .before .pre in
+    let e = same-long g (o .before .loop .inv) in
+    (g .long, omega (arith, g .ordered, g .inside), omega (arith, g .short), omega arith)
+
 loop-less : tie.Need-loop-less Inv-loop μ-loop
 loop-less c = search needs
 
 loop-again : tie.Need-loop-again Inv-loop μ-loop
 loop-again c =
-    let o = c .before .before .before .before in
+    let o = c .before .before .before .before .before .before in
     let l = o .before .loop in
     let a = o .before .before .before .args in
     let q : l .j * a .len + a .len - l .j * a .len ≡ a .len = omega arith in
-    going-full (o .before .before .before .pre) (l .inv) (o .loop-test .taken) (rw q at (sym (c .before .sum-of .ensures) ∙ c .if1 .taken))
+    let h = going-full (o .before .before .before .pre) (l .inv) (o .loop-test .taken) (rw q at (sym (c .before .before .before .sum-of .ensures) ∙ c .before .before .if1 .taken)) in
+    going-past (o .before .before .before .pre) h (c .past-full .ensures .0) (c .past-full .ensures .1) (c .past-full .ensures .2)
 
 mul-record-live : tie.Need-mul-record-live Inv-loop μ-loop
 mul-record-live c = omega (arith, index-room (c .before .before .before .before .before .before .before .before .pre) (c .before .before .before .before .before .before .loop .inv))
@@ -176,6 +184,7 @@ move-to-spec =
     part-sum-of-start
     part-sum-of-end
     sum-of-requires
+    past-full-requires
     loop-less
     loop-again
     mul-record-live

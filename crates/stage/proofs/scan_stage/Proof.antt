@@ -8,15 +8,15 @@ use borrow.Author.Needs.{needs}
 use borrow.Author.Tests.{ltb-false, ltb-true}
 use Rattle.stage.specs.Laws.{block-inside}
 use Rattle.stage.specs.Meaning.{ScanAt, Turn}
-use Rattle.stage.specs.TurnLaws.{scan-begun, scan-ended, too-few, too-great, turn-begun, turn-first-free, turn-free, turn-full, turn-own, twice}
+use Rattle.stage.specs.TurnLaws.{scan-begun, scan-ended, too-few, too-great, turn-begun, turn-first-free, turn-free, turn-full, turn-own, turn-past, twice}
 use Rattle.stage.proofs.scan_stage.Statement.{statement}
 use Rattle.stage.proofs.scan_stage.Tie as tie
 
 abbrev Inv-loop : tie.InvT-loop
-Inv-loop cells batch len count w k top s₀ next₀ j₀ s next j = ScanAt k (len * top) count len cells top w batch (2 * (k - 1)) j next s
+Inv-loop cells batch len count w k top s₀ next₀ at₀ s next at = ScanAt k (len * top) count len cells top w batch (2 * (k - 1)) at next s
 
 abbrev μ-loop : tie.MeasureT-loop
-μ-loop cells batch len count w k top s₀ next₀ j₀ s next j = count - j
+μ-loop cells batch len count w k top s₀ next₀ at₀ s next at = count - at
 
 begin-requires : tie.Need-begin-requires Inv-loop μ-loop
 begin-requires c κs = search needs
@@ -27,23 +27,30 @@ loop-holds c = rw (c .begin .ensures) (scan-begun (c .before .before .before .pr
 weight-of-requires : tie.Need-weight-of-requires Inv-loop μ-loop
 weight-of-requires c κs =
     let a = c .before .before .before .before .before .args in
-    omega (arith, block-inside (a .len) (c .before .loop .j) (a .count) (c .loop-test .taken))
+    omega (arith, block-inside (a .len) (c .before .loop .at) (a .count) (c .loop-test .taken))
+
+add-at : tie.Need-add-at Inv-loop μ-loop
+add-at c = search needs
 
 mul-if1 : tie.Need-mul-if1 Inv-loop μ-loop
 mul-if1 c =
     let a = c .before .before .before .before .before .before .args in
-    let h : a .len ≤ 65536 = omega (arith, block-inside (a .len) (c .before .before .loop .j) (a .count) (c .before .loop-test .taken)) in
+    let h : a .len ≤ 65536 = omega (arith, block-inside (a .len) (c .before .before .loop .at) (a .count) (c .before .loop-test .taken)) in
     let g : a .top ≤ 255 = omega arith in
     omega (arith, mul-le-mul h g)
 
-add-j : tie.Need-add-j Inv-loop μ-loop
-add-j c = search needs
+past-full-requires : tie.Need-past-full-requires Inv-loop μ-loop
+past-full-requires c κs = search needs
 
 loop-less : tie.Need-loop-less Inv-loop μ-loop
 loop-less c = search needs
 
 loop-again : tie.Need-loop-again Inv-loop μ-loop
-loop-again c = turn-full (c .before .before .before .loop .inv) (c .before .before .loop-test .taken) (c .before .weight-of .ensures) (c .if1 .taken)
+loop-again c =
+    let v = c .before .before in
+    let l = v .before .before in
+    let h = turn-full (l .loop .inv) (v .before .loop-test .taken) (v .weight-of .ensures) (c .before .if1 .taken) in
+    turn-past (l .before .before .before .before .pre .low) h (c .past-full .ensures .0) (c .past-full .ensures .1) (c .past-full .ensures .2)
 
 sub-next-index : tie.Need-sub-next-index Inv-loop μ-loop
 sub-next-index c = search needs
@@ -75,7 +82,7 @@ turn : (c : tie.After-known-told Inv-loop μ-loop) →
     let v = f .before .before in
     let l = v .before .before in
     let a = l .before .before .before .before .args in
-    Turn (a .k) (a .len * a .top) (a .count) (a .len) (a .cells .now) (a .top) (a .w) (a .batch .now) (2 * (a .k - 1)) (l .loop .j) (c .before .slot .given .0 .0) (c .before .slot .given .0 .1 .0) (v .weight-of .result) (l .loop .s)
+    Turn (a .k) (a .len * a .top) (a .count) (a .len) (a .cells .now) (a .top) (a .w) (a .batch .now) (2 * (a .k - 1)) (l .loop .at) (c .before .slot .given .0 .0) (c .before .slot .given .0 .1 .0) (v .weight-of .result) (l .loop .s)
 turn c =
     let f = c .before .before .before in
     let v = f .before .before in
@@ -87,17 +94,23 @@ add-next c = omega (arith, turn c .an-index)
 with-free-requires : tie.Need-with-free-requires Inv-loop μ-loop
 with-free-requires c κs = search needs
 
-add-j-2 : tie.Need-add-j-2 Inv-loop μ-loop
-add-j-2 c = search needs
-
 loop-less-2 : tie.Need-loop-less-2 Inv-loop μ-loop
 loop-less-2 c = search needs
 
 loop-again-2 : tie.Need-loop-again-2 Inv-loop μ-loop
 loop-again-2 c =
+    let t = c .before .before .before in
+    let z : t .before .slot .given .0 .1 .0 ≡ 0 = omega arith in
+    rw (c .with-free .ensures) (turn-first-free (turn t) z (c .before .if3 .taken))
+
+loop-less-3 : tie.Need-loop-less-3 Inv-loop μ-loop
+loop-less-3 c = search needs
+
+loop-again-3 : tie.Need-loop-again-3 Inv-loop μ-loop
+loop-again-3 c =
     let t = c .before .before in
     let z : t .before .slot .given .0 .1 .0 ≡ 0 = omega arith in
-    ⊎-elim (λ w. rw (w .2 ∙ w .1 .ensures) (turn-first-free (turn t) z (w .0 .taken))) (λ w. rw (w .1) (turn-free (turn t) z (w .0 .left))) (c .if3 .came)
+    turn-free (turn t) z (c .if3 .left)
 
 sub-bit : tie.Need-sub-bit Inv-loop μ-loop
 sub-bit c = search needs
@@ -136,14 +149,11 @@ mul-s-3 c = search needs
 element-write-s-3 : tie.Need-element-write-s-3 Inv-loop μ-loop
 element-write-s-3 c = search needs
 
-add-j-3 : tie.Need-add-j-3 Inv-loop μ-loop
-add-j-3 c = search needs
+loop-less-4 : tie.Need-loop-less-4 Inv-loop μ-loop
+loop-less-4 c = search needs
 
-loop-less-3 : tie.Need-loop-less-3 Inv-loop μ-loop
-loop-less-3 c = search needs
-
-loop-again-3 : tie.Need-loop-again-3 Inv-loop μ-loop
-loop-again-3 c =
+loop-again-4 : tie.Need-loop-again-4 Inv-loop μ-loop
+loop-again-4 c =
     let t = c .before .before .before .before in
     let u = t .before .slot .given .0 .1 .0 in
     let z : u ≡ suc (u - 1) = omega arith in
@@ -175,8 +185,9 @@ scan-stage-spec =
     begin-requires
     loop-holds
     weight-of-requires
+    add-at
     mul-if1
-    add-j
+    past-full-requires
     loop-less
     loop-again
     sub-next-index
@@ -188,9 +199,10 @@ scan-stage-spec =
     returns
     add-next
     with-free-requires
-    add-j-2
     loop-less-2
     loop-again-2
+    loop-less-3
+    loop-again-3
     sub-bit
     mul-if5
     element-copy-out-if5
@@ -202,9 +214,8 @@ scan-stage-spec =
     element-write-s-2
     mul-s-3
     element-write-s-3
-    add-j-3
-    loop-less-3
-    loop-again-3
+    loop-less-4
+    loop-again-4
     sub-next-index-2
     mul-next-index-2
     next-index-requires-2

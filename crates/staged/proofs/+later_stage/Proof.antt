@@ -1,7 +1,6 @@
 -- `staged::later_stage` meets its contract: the length of the blocks falls, and each return is one turn of the search. Assumes nothing.
 use mathlib.Core.Path.{sym}
-use Prim.Native.Nat.{ℕ, _<_, _≤_, _/_}
-use native.Mathlib.Nat.{mul-le-mul}
+use Prim.Native.Nat.{ℕ, _<_}
 use native.Mathlib.Omega.{arith}
 use Rattle.staged.specs.Laws.{halved, later-here, later-on, later-stop}
 use borrow.Fn.Kinds.{In}
@@ -24,7 +23,6 @@ abbrev later-stage-below : ℕ → In 1 later-stage-kinds.ps
 later-stage-below t =
     and 1 later-stage-kinds.ps (falls 1 later-stage-kinds.ps _<_ μ-later-stage t) later-stage.Pre
 
--- src/lib.rt:142:9
 later-stage-returns : (t : ℕ) → later-stage-lts.Need-returns (
   count-live-reads.Asked,
   count-live-reads.Learnt,
@@ -35,7 +33,6 @@ later-stage-returns t c =
     let a = c .before .before .args in
     sym (later-stop (a .k) (a .top) (a .count) (a .left) (a .cells .now) (omega arith))
 
--- src/lib.rt:145:18
 later-stage-mul-blocks : (t : ℕ) → later-stage-lts.Need-mul-blocks (
   count-live-reads.Asked,
   count-live-reads.Learnt,
@@ -47,20 +44,6 @@ later-stage-mul-blocks t c =
     let g = halved (a .left) (a .len) (a .count) (omega arith) (c .if1 .left) in
     omega arith
 
--- src/lib.rt:146:40
-later-stage-mul-count-live : (t : ℕ) → later-stage-lts.Need-mul-count-live (
-  count-live-reads.Asked,
-  count-live-reads.Learnt,
-  later-stage-below t,
-  later-stage.Post,
-) (later-stage-at t) later-stage.Post
-later-stage-mul-count-live t c =
-    let a = c .before .before .args in
-    let h : a .len / 2 ≤ 32768 = omega arith in
-    let l : a .top ≤ 255 = omega arith in
-    omega (arith, mul-le-mul h l)
-
--- src/lib.rt:146:8
 later-stage-count-live-requires : (t : ℕ) → later-stage-lts.Need-count-live-requires (
   count-live-reads.Asked,
   count-live-reads.Learnt,
@@ -70,21 +53,19 @@ later-stage-count-live-requires : (t : ℕ) → later-stage-lts.Need-count-live-
 later-stage-count-live-requires t c κs =
     let a = c .before .before .args in
     let g = halved (a .left) (a .len) (a .count) (omega arith) (c .if1 .left) in
-    (omega arith, omega arith, omega arith, omega arith)
+    (omega arith, omega arith, omega arith, omega arith, c .before .before .pre .1 .4)
 
--- src/lib.rt:147:28
-later-stage-sub-t13 : (t : ℕ) → later-stage-lts.Need-sub-t13 (
+later-stage-sub-t11 : (t : ℕ) → later-stage-lts.Need-sub-t11 (
   count-live-reads.Asked,
   count-live-reads.Learnt,
   later-stage-below t,
   later-stage.Post,
 ) (later-stage-at t) later-stage.Post
-later-stage-sub-t13 t c =
+later-stage-sub-t11 t c =
     let a = c .before .before .before .before .args in
     let g = halved (a .left) (a .len) (a .count) (omega arith) (c .before .before .if1 .left) in
     omega arith
 
--- src/lib.rt:147:9
 later-stage-returns-2 : (t : ℕ) → later-stage-lts.Need-returns-2 (
   count-live-reads.Asked,
   count-live-reads.Learnt,
@@ -95,7 +76,6 @@ later-stage-returns-2 t c =
     let a = c .before .before .before .before .args in
     sym (later-here (a .k) (a .top) (a .count) (a .left) (a .len) (a .cells .now) (omega arith) (c .before .before .if1 .left) (omega arith))
 
--- src/lib.rt:149:24
 later-stage-sub-later-stage : (t : ℕ) → later-stage-lts.Need-sub-later-stage (
   count-live-reads.Asked,
   count-live-reads.Learnt,
@@ -107,7 +87,6 @@ later-stage-sub-later-stage t c =
     let g = halved (a .left) (a .len) (a .count) (omega arith) (c .before .before .if1 .left) in
     omega arith
 
--- src/lib.rt:149:5
 later-stage-later-stage-requires : (t : ℕ) → later-stage-lts.Need-later-stage-requires (
   count-live-reads.Asked,
   count-live-reads.Learnt,
@@ -117,9 +96,8 @@ later-stage-later-stage-requires : (t : ℕ) → later-stage-lts.Need-later-stag
 later-stage-later-stage-requires t c κs =
     let a = c .before .before .before .before .args in
     let g = halved (a .left) (a .len) (a .count) (omega arith) (c .before .before .if1 .left) in
-    (omega arith, (g .half, omega arith, omega arith, omega arith))
+    (omega arith, (g .half, omega arith, omega arith, omega arith, c .before .before .before .before .pre .1 .4))
 
--- src/lib.rt:137:1
 later-stage-returns-3 : (t : ℕ) → later-stage-lts.Need-returns-3 (
   count-live-reads.Asked,
   count-live-reads.Learnt,
@@ -141,9 +119,8 @@ pub +later-stage-spec : {M : Type 1} → statement M
     later-stage.Post
     (later-stage-returns t)
     (later-stage-mul-blocks t)
-    (later-stage-mul-count-live t)
     (later-stage-count-live-requires t)
-    (later-stage-sub-t13 t)
+    (later-stage-sub-t11 t)
     (later-stage-returns-2 t)
     (later-stage-sub-later-stage t)
     (later-stage-later-stage-requires t)

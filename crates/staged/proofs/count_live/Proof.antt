@@ -1,27 +1,33 @@
 -- `staged::count_live` meets its contract: the count is that of the blocks passed. Assumes nothing.
-use mathlib.Core.Logic.{⊎-elim}
-use mathlib.Core.Path.{_≡_, ap, sym}
-use Prim.Native.Nat.{_≤_, _+_, _*_, _-_}
+use mathlib.Core.Path.{_≡_, _∙_, ap, sym}
+use Prim.Native.Nat.{ℕ, _≤_, _+_, _*_, _-_}
+use native.Mathlib.Nat.{mul-le-mul}
 use native.Mathlib.Omega.{arith}
-use borrow.Author.Needs.{needs}
 use lib.ListN.{length, take, drop, length-drop, length-take}
 use Rattle.laws.specs.Live.{count-full, count-more}
 use Rattle.rules.specs.Cells.{block, chop, sum}
 use Rattle.rules.specs.Stage.{liveWeights}
-use Rattle.staged.specs.Laws.{block-fits, part-block}
+use Rattle.staged.specs.Laws.{block-fits, count-past, part-block}
+use borrow.Author.Needs.{needs}
 use Rattle.staged.proofs.count_live.Statement.{statement}
 use Rattle.staged.proofs.count_live.Tie as tie
 use Rattle.staged.proofs.count_live.Reads as reads
 use Rattle.staged.proofs.count_live.Lts as lts
 use Rattle.block.proofs.sum_of.Reads as sum-of-reads
+use Rattle.staged.proofs.past_full.Reads as past-full-reads
 
 abbrev Inv-loop : tie.InvT-loop
-Inv-loop cells len count full live₀ j₀ live j = (j ≤ count) × (live ≡ length (liveWeights full (chop len j cells))) × (live ≤ j)
+Inv-loop cells len count top full live₀ j₀ live j = (j ≤ count) × (live ≡ length (liveWeights (len * top) (chop len j cells))) × (live ≤ j)
 
 abbrev μ-loop : tie.MeasureT-loop
-μ-loop cells len count full live₀ j₀ live j = count - j
+μ-loop cells len count top full live₀ j₀ live j = count - j
 
--- src/lib.rt:96:5
+mul-full : tie.Need-mul-full Inv-loop μ-loop
+mul-full c =
+    let a = c .before .args in
+    let g : a .top ≤ 255 = omega arith in
+    omega (arith, mul-le-mul {n₁ = a .len} {n₂ = 65536} (omega arith) g)
+
 loop-holds : tie.Need-loop-holds Inv-loop μ-loop
 loop-holds c = search needs
 
@@ -31,55 +37,62 @@ inside c =
     let a = c .before .before .before .args in
     omega (arith, block-fits (a .len) (c .before .loop .j) (a .count) (c .loop-test .taken))
 
--- src/lib.rt:97:17
+-- and its weight is the block's
+weighs : (c : tie.In-loop Inv-loop μ-loop) (r : ℕ) → r ≡ sum (take (c .before .loop .j * c .before .before .before .args .len + c .before .before .before .args .len - c .before .loop .j * c .before .before .before .args .len) (drop (c .before .loop .j * c .before .before .before .args .len) (c .before .before .before .args .cells .now)))
+    → sum (block (c .before .before .before .args .len) (c .before .before .before .args .cells .now) (c .before .loop .j)) ≡ r
+weighs c r e =
+    let a = c .before .before .before .args in
+    sym (e ∙ ap sum (part-block (a .len) (a .cells .now) (c .before .loop .j)))
+
 mul-a : tie.Need-mul-a Inv-loop μ-loop
 mul-a c = omega (arith, inside c)
 
--- src/lib.rt:98:17
 add-e : tie.Need-add-e Inv-loop μ-loop
 add-e c = omega (arith, inside c)
 
--- src/lib.rt:99:19
-sub-sum-of : tie.Need-sub-sum-of Inv-loop μ-loop
-sub-sum-of c = search needs
-
--- src/lib.rt:99:19
-part-sum-of-start : tie.Need-part-sum-of-start Inv-loop μ-loop
-part-sum-of-start c = search needs
-
--- src/lib.rt:99:19
-part-sum-of-end : tie.Need-part-sum-of-end Inv-loop μ-loop
-part-sum-of-end c = omega (arith, inside c)
-
--- src/lib.rt:99:12
-sum-of-requires : tie.Need-sum-of-requires Inv-loop μ-loop
-sum-of-requires c κs = simp (length-take, length-drop) (omega arith)
-
--- src/lib.rt:100:13
-add-live : tie.Need-add-live Inv-loop μ-loop
-add-live c = search needs
-
--- src/lib.rt:102:9
 add-j : tie.Need-add-j Inv-loop μ-loop
 add-j c = search needs
 
--- src/lib.rt:96:5
+sub-sum-of : tie.Need-sub-sum-of Inv-loop μ-loop
+sub-sum-of c = search needs
+
+part-sum-of-start : tie.Need-part-sum-of-start Inv-loop μ-loop
+part-sum-of-start c = search needs
+
+part-sum-of-end : tie.Need-part-sum-of-end Inv-loop μ-loop
+part-sum-of-end c = omega (arith, inside c)
+
+sum-of-requires : tie.Need-sum-of-requires Inv-loop μ-loop
+sum-of-requires c κs = simp (length-take, length-drop) (omega arith)
+
+past-full-requires : tie.Need-past-full-requires Inv-loop μ-loop
+past-full-requires c κs = search needs
+
 loop-less : tie.Need-loop-less Inv-loop μ-loop
 loop-less c = search needs
 
--- src/lib.rt:96:5
 loop-again : tie.Need-loop-again Inv-loop μ-loop
 loop-again c =
-    let o = c .before .before .before in
+    let o = c .before .before .before .before in
     let a = o .before .before .before .args in
     let j = o .before .loop .j in
-    let w : sum (block (a .len) (a .cells .now) j) ≡ sum (take (j * a .len + a .len - j * a .len) (drop (j * a .len) (a .cells .now))) = ap sum (sym (part-block (a .len) (a .cells .now) j)) in
-    ⊎-elim
-    (λ t. omega (arith, count-more (a .full) (a .len) j (a .cells .now) (λ e. omega arith)))
-    (λ t. omega (arith, count-full (a .full) (a .len) j (a .cells .now) (omega arith)))
-    (c .if1 .came)
+    let e = count-full (a .len * a .top) (a .len) j (a .cells .now) (weighs o _ (c .before .before .sum-of .ensures) ∙ c .before .if1 .taken) in
+    let f = count-past (a .len) (a .top) (j + 1) (c .past-full .result) (a .cells .now) (o .before .before .before .pre .4) (c .past-full .ensures .0) (c .past-full .ensures .2) in
+    (c .past-full .ensures .1, omega arith, omega arith)
 
--- src/lib.rt:90:1
+add-live : tie.Need-add-live Inv-loop μ-loop
+add-live c = search needs
+
+loop-less-2 : tie.Need-loop-less-2 Inv-loop μ-loop
+loop-less-2 c = search needs
+
+loop-again-2 : tie.Need-loop-again-2 Inv-loop μ-loop
+loop-again-2 c =
+    let o = c .before .before .before in
+    let a = o .before .before .before .args in
+    let e = count-more (a .len * a .top) (a .len) (o .before .loop .j) (a .cells .now) (λ q. c .if1 .left (sym (weighs o _ (c .before .sum-of .ensures)) ∙ q)) in
+    (omega arith, omega arith, omega arith)
+
 returns : tie.Need-returns Inv-loop μ-loop
 returns c =
     let l = c .before .loop in
@@ -93,15 +106,19 @@ count-live-spec =
     (tie.spec
     Inv-loop
     μ-loop
+    mul-full
     loop-holds
     mul-a
     add-e
+    add-j
     sub-sum-of
     part-sum-of-start
     part-sum-of-end
     sum-of-requires
-    add-live
-    add-j
+    past-full-requires
     loop-less
     loop-again
+    add-live
+    loop-less-2
+    loop-again-2
     returns)

@@ -1,0 +1,111 @@
+-- `staged::past_full` meets its contract: every block passed over is full. Assumes nothing.
+use mathlib.Core.Path.{_≡_}
+use Prim.Native.Nat.{_*_, _+_, _-_, _/_, _≤_}
+use native.Mathlib.Nat.{le-mul-of-pos-right, mul-le-mul-right}
+use native.Mathlib.Omega.{arith}
+use Rattle.staged.specs.Laws.{block-fits, past-more, past-none, run-blocks}
+use Rattle.staged.specs.Meaning.{FullFrom}
+use borrow.Author.Needs.{needs}
+use lib.ListN.{take, drop}
+use Rattle.block.specs.Meaning.{leastOf}
+use Rattle.staged.proofs.past_full.Statement.{statement}
+use Rattle.staged.proofs.past_full.Tie as tie
+use Rattle.staged.proofs.past_full.Reads as reads
+use Rattle.staged.proofs.past_full.Lts as lts
+use Rattle.block.proofs.least.Reads as least-reads
+
+abbrev Inv-loop : tie.InvT-loop
+Inv-loop cells len count from top step j₀ j = (from ≤ j) × (j ≤ count) × FullFrom len top cells from j × ((1 ≤ step) × (step ≤ 64) × (step * len ≤ 64))
+
+abbrev μ-loop : tie.MeasureT-loop
+μ-loop cells len count from top step j₀ j = count - j
+
+returns : tie.Need-returns Inv-loop μ-loop
+returns c = search needs
+
+div-step : tie.Need-div-step Inv-loop μ-loop
+div-step c = search needs
+
+loop-holds : tie.Need-loop-holds Inv-loop μ-loop
+loop-holds c =
+    let a = c .before .before .args in
+    (omega arith, omega arith, past-none (a .len) (a .top) (a .from) (a .cells .now), run-blocks (a .len) (omega arith) (omega arith))
+
+add-loop : tie.Need-add-loop Inv-loop μ-loop
+add-loop c =
+    let a = c .before .before .before .args in
+    omega (arith, le-mul-of-pos-right {m = a .len} (a .count) (omega arith))
+
+-- in a turn the run begins in the cells
+begins : (c : tie.In-loop Inv-loop μ-loop) → c .before .loop .j * c .before .before .before .before .args .len ≤ 65536
+begins c =
+    let a = c .before .before .before .before .args in
+    omega (arith, mul-le-mul-right {m = c .before .loop .j} {n = a .count} (a .len) (omega arith))
+
+mul-a : tie.Need-mul-a Inv-loop μ-loop
+mul-a c = omega (arith, begins c)
+
+add-e : tie.Need-add-e Inv-loop μ-loop
+add-e c = omega (arith, begins c)
+
+returns-2 : tie.Need-returns-2 Inv-loop μ-loop
+returns-2 c = search needs
+
+sub-least : tie.Need-sub-least Inv-loop μ-loop
+sub-least c = search needs
+
+part-least-start : tie.Need-part-least-start Inv-loop μ-loop
+part-least-start c = search needs
+
+part-least-end : tie.Need-part-least-end Inv-loop μ-loop
+part-least-end c = search needs
+
+least-requires : tie.Need-least-requires Inv-loop μ-loop
+least-requires c κs = search needs
+
+returns-3 : tie.Need-returns-3 Inv-loop μ-loop
+returns-3 c = search needs
+
+add-j : tie.Need-add-j Inv-loop μ-loop
+add-j c = search needs
+
+loop-less : tie.Need-loop-less Inv-loop μ-loop
+loop-less c = search needs
+
+loop-again : tie.Need-loop-again Inv-loop μ-loop
+loop-again c =
+    let l = c .before .before .before .before .before in
+    let a = l .before .before .before .args in
+    let q : l .loop .j * a .len + 64 - l .loop .j * a .len ≡ 64 = omega arith in
+    let g : a .top ≤ leastOf (take 64 (drop (l .loop .j * a .len) (a .cells .now))) = omega (arith, rw q at (c .before .least .ensures)) in (
+      omega arith,
+      omega arith,
+      past-more (a .len) (a .top) (64 / a .len) 64 (a .from) (l .loop .j) (a .cells .now) (l .loop .inv .3 .2) (omega arith) g (l .loop .inv .2),
+      l .loop .inv .3,
+    )
+
+returns-4 : tie.Need-returns-4 Inv-loop μ-loop
+returns-4 c = search needs
+
+pub past-full-spec : {M : Type 1} → statement M
+past-full-spec =
+    tie.close
+    (tie.spec
+    Inv-loop
+    μ-loop
+    returns
+    div-step
+    loop-holds
+    add-loop
+    mul-a
+    add-e
+    returns-2
+    sub-least
+    part-least-start
+    part-least-end
+    least-requires
+    returns-3
+    add-j
+    loop-less
+    loop-again
+    returns-4)
