@@ -9,7 +9,7 @@ use native.Mathlib.Omega.{arith}
 use borrow.Author.Tests.{eq-eqb, ne-eqb}
 use lib.Dec.{eqb}
 use lib.ListN.{length, getD, take, drop, replicate, length-drop, drop-of-length-le}
-use lib.Seq.{take-suc, take-all, drop-drop, length-take-le}
+use lib.Seq.{take-suc, take-all, drop-drop}
 use Rattle.laws.specs.Lists.{low-all, low-at, sum-part}
 use Rattle.rules.specs.Calls.{levelCheck}
 use Rattle.rules.specs.Cells.{Low, block, firstAbove, same?, store, sum}
@@ -59,7 +59,7 @@ low-greatest L (x ∷ s) h = omega (arith, low-greatest L s (h .1))
 -- ---- the least level
 
 -- it is a level
-least-small : (s : List ℕ) → leastOf s ≤ 255
+pub least-small : (s : List ℕ) → leastOf s ≤ 255
 unfolding leastOf
 least-small [] = omega arith
 least-small (x ∷ s) = omega (arith, least-small s)
@@ -79,32 +79,7 @@ least-take s i h b =
     ∙ least-append (take i s) (getD s i 0 ∷ [])
     ∙ omega arith
 
--- the first cells of a run are no lower
-least-first : (n : ℕ) (s : List ℕ) → leastOf s ≤ leastOf (take n s)
-unfolding leastOf
-least-first zero s = least-small s
-least-first (suc n) [] = omega arith
-least-first (suc n) (x ∷ s) = omega (arith, least-first n s)
-
--- nor are the last
-least-last : (n : ℕ) (s : List ℕ) → leastOf s ≤ leastOf (drop n s)
-unfolding leastOf
-least-last zero s = omega arith
-least-last (suc n) [] = omega arith
-least-last (suc n) (x ∷ s) = omega (arith, least-last n s)
-
--- a run weighs at least its length times a level that no cell is below
-least-weight : (L : ℕ) (s : List ℕ) → L ≤ leastOf s → length s * L ≤ sum s
-unfolding leastOf
-least-weight L [] h = omega arith
-least-weight L (x ∷ s) h = omega (arith, least-weight L s (omega arith))
-
--- and so do any n of its cells
-pub part-weight : (L a n : ℕ) (s : List ℕ) → L ≤ leastOf s → a + n ≤ length s → n * L ≤ sum (take n (drop a s))
-part-weight L a n s h l =
-    let e : length (take n (drop a s)) ≡ n = length-take-le n (drop a s) (omega (arith, length-drop a s)) in
-    let g : length (take n (drop a s)) * L ≤ sum (take n (drop a s)) = least-weight L (take n (drop a s)) (omega (arith, least-last a s, least-first n (drop a s))) in
-    rw e at g
+-- ---- the first cell above L
 
 -- a search that found nothing
 none-there : {P : ℕ → Type 0} {m : ℕ} → First P m nowhere → (c : ℕ) → c < m → ¬ (P c)

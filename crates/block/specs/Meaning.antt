@@ -1,12 +1,13 @@
 -- What the answers on one block and on runs of cells mean, as definitions of the rules. Assumes nothing.
 use mathlib.Core.Bool.{Bool, true, false}
 use mathlib.Core.List.{List, [], _∷_}
-use Prim.Native.Nat.{ℕ, _-_, _<_, max, min}
+use mathlib.Core.Path.{_≡_}
+use Prim.Native.Nat.{ℕ, _-_, _*_, _≤_, _<_, max, min}
 use native.Mathlib.Decide.{decLt}
 use lib.ListN.{length, getD, take, drop}
 use Rattle.laws.specs.Rise.{cellBefore}
 use Rattle.rules.specs.Block.{State, empty, full, broken, active, ramp}
-use Rattle.rules.specs.Cells.{same?}
+use Rattle.rules.specs.Cells.{block, same?, sum}
 use Rattle.rules.specs.Search.{Found, at, nowhere, first, pick}
 use Rattle.rules.specs.declared.Answer.the-variants.{BadLevel}
 use Rattle.rules.specs.declared.Check.{Check}
@@ -27,6 +28,14 @@ greatestOf (x ∷ xs) = max x (greatestOf xs)
 unfoldable pub leastOf : List ℕ → ℕ
 leastOf [] = 255
 leastOf (x ∷ xs) = min x (leastOf xs)
+
+-- cells that pass for a run at level v: none is below it, and all are 0 if it is 0
+abbrev pub RunAt : ℕ → List ℕ → Type 0
+RunAt v s = (v ≤ leastOf s) × (v ≡ 0 → greatestOf s ≡ 0)
+
+-- every block from one number up to another weighs what one at level v does, or more, and nothing if v is 0
+abbrev pub RunFrom : ℕ → ℕ → List ℕ → ℕ → ℕ → Type 0
+RunFrom len v cells from to = (x : ℕ) → from ≤ x → x < to → (len * v ≤ sum (block len cells x)) × (v ≡ 0 → sum (block len cells x) ≡ 0)
 
 -- the place that a look at the levels found
 abbrev pub asFound : Level → Found

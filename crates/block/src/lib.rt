@@ -7,7 +7,7 @@ ghost use lib.ListN.{length, take, drop, replicate};
 ghost use Rattle.rules.specs.Search.{pick};
 ghost use Rattle.rules.specs.Cells.{sum, Low, firstAbove, same?, block, store};
 ghost use Rattle.rules.specs.Block.{ramp, cycle, stateOf};
-ghost use Rattle.block.specs.Meaning.{greatestOf, leastOf, asFound, asPlace, startOf, asState};
+ghost use Rattle.block.specs.Meaning.{greatestOf, leastOf, RunAt, RunFrom, asFound, asPlace, startOf, asState};
 
 // What a look at the levels finds: none above the top level, or the first cell that is.
 pub enum Level {
@@ -60,7 +60,7 @@ fn greatest(s: &[u8]) -> u8
 }
 
 // The least level, 255 where there is no cell.
-pub fn least(s: &[u8]) -> u8
+fn least(s: &[u8]) -> u8
     ensures { λ r. ⌜ r ≡ leastOf (now (s .entry)) ⌝ }
 {
     let mut best: u8 = 255;
@@ -194,4 +194,38 @@ pub fn raise_block(sheet: &mut [u8], k: usize, top: u8, j: usize, bit: usize, we
 {
     let a = j * k;
     raise_step(&mut sheet[a..], k, top, bit, weight);
+}
+
+// Whether cells pass for a run at a level: none is below it, and all are 0 if it is 0. So where no level is above the top one, all are 0, or all are at the top.
+fn run_at(b: &[u8], level: u8) -> bool
+    ensures { λ r. ⌜ (r ≡ true → RunAt level (now (b .entry))) ⌝ }
+{
+    if level == 0 {
+        return greatest(b) == 0;
+    }
+    level <= least(b)
+}
+
+// Past whole runs of 64 cells at a level: the number of the block, from a number on, to look at next. How far it goes is a matter of speed alone.
+pub fn past_run(cells: &[u8], len: usize, count: usize, from: usize, level: u8) -> usize
+    requires { ⌜ (1 ≤ len) × (count * len ≤ length (now cells)) × (length (now cells) ≤ 65536) × (from ≤ count) ⌝ }
+    ensures { λ r. ⌜ (from ≤ r) × (r ≤ count) × RunFrom len level (now (cells .entry)) from r ⌝ }
+{
+    if 64 < len {
+        return from;
+    }
+    let step = 64 / len;
+    let mut j = from;
+    while j + step <= count {
+        let a = j * len;
+        let e = a + 64;
+        if cells.len() < e {
+            return j;
+        }
+        if !run_at(&cells[a..e], level) {
+            return j;
+        }
+        j += step;
+    }
+    j
 }

@@ -12,6 +12,15 @@ use lib.Seq.{drop-append-add, drop-append-le, drop-at, drop-drop, length-take-le
 use Rattle.laws.specs.Lists.{low-append, low-drop, low-take, rises-append, rises-same, sum-append}
 use Rattle.rules.specs.Cells.{Low, Rises, block, store, sum}
 
+-- block j of n blocks ends where they do, or before
+pub block-fits : (w j n : ℕ) → j < n → j * w + w ≤ n * w
+block-fits w j n h = omega (arith, mul-le-mul-right {m = suc j} {n = n} w h)
+
+-- the cells from j times w to j times w + w, as a part lent on, are block j
+pub part-block : (w : ℕ) (xs : List ℕ) (j : ℕ) → take (j * w + w - j * w) (drop (j * w) xs) ≡ block w xs j
+unfolding block
+part-block w xs j = let q : j * w + w - j * w ≡ w = omega arith in ap (λ (n : ℕ). take n (drop (j * w) xs)) q
+
 pub low-block : (L w : ℕ) (xs : List ℕ) (j : ℕ) → Low L xs → Low L (block w xs j)
 unfolding block
 low-block L w xs j h = low-take L w (drop (j * w) xs) (low-drop L (j * w) xs h)

@@ -12,8 +12,8 @@ use Rattle.laws.specs.Live.{count-full, count-more, live, live-none, run-keeps}
 use Rattle.laws.specs.Splice.{part, part-part, spliced, spliced-none}
 use Rattle.laws.specs.Stage.{Sized}
 use Rattle.rules.specs.Cells.{Low, block, chop, sum}
-use Rattle.staged.specs.Laws.{heavy-full}
-use Rattle.staged.specs.Meaning.{FullFrom}
+use Rattle.block.specs.Meaning.{RunFrom}
+use Rattle.block.specs.RunLaws.{heavy-full}
 use Rattle.moving.specs.Laws.{length-parity, parity-full, parity-le}
 use Rattle.moving.specs.Meaning.{Apart, Going, Roomy, liveAt, movedUpTo, numberCells, parityCells}
 use Rattle.moving.specs.MoveLaws.{batch-ahead, block-ahead, full-turn, length-up-to, live-grows, live-turn, sum-before, sum-more}
@@ -157,11 +157,11 @@ module _ {at len count w k L : ℕ} {vs f₀ : List ℕ} (g : Roomy at len count
 
 -- full blocks are passed over in runs
 pub going-past : {at len count w k L : ℕ} {vs f₀ : List ℕ} (g : Roomy at len count w k L f₀) {f : List ℕ} {raised u j r : ℕ} → Going at len count w L vs f₀ f raised u j
-    → j ≤ r → r ≤ count → FullFrom len L f j r → Going at len count w L vs f₀ f raised u r
+    → j ≤ r → r ≤ count → RunFrom len L f j r → Going at len count w L vs f₀ f raised u r
 unfolding block
 going-past {at} {len} {count} {w} {k} {L} {vs} {f₀} g {f} {raised} {u} {j} {r} i a b h =
     run-keeps (λ y. Going at len count w L vs f₀ f raised u y) j r a
     (λ y c d o.
     let more : y < count = omega arith in
-    going-full g o more (heavy-full len L (part (y * len) len f) (omega (arith, length-take len (drop (y * len) f))) (block-low g o more) (h y c d)))
+    going-full g o more (heavy-full len L (part (y * len) len f) (omega (arith, length-take len (drop (y * len) f))) (block-low g o more) (h y c d .0)))
     i

@@ -11,9 +11,9 @@ ghost use Rattle.rules.specs.Search.{pick};
 ghost use Rattle.rules.specs.Stage.{recorded, index, closed};
 ghost use Rattle.rules.specs.Batches.{entryCells};
 ghost use Rattle.moving.specs.Meaning.{Apart, Roomy, parityCells, recordedAt, liveAt, moved};
+use block::past_run;
 use block::sum_of;
 use staged::fill;
-use staged::past_full;
 use staged::raise_one;
 use staged::set_index;
 
@@ -123,7 +123,7 @@ pub fn move_to(
         let e = a + len;
         j += 1;
         if sum_of(&sheet[a..e]) == full {
-            j = past_full(sheet, len, count, j, top);
+            j = past_run(sheet, len, count, j, top);
             continue;
         }
         raised += record_live(sheet, a, len, at + live * w, w, k, top, live, values);

@@ -5,13 +5,13 @@ use mathlib.Core.Logic.{_≢_, ⊎-elim}
 use mathlib.Core.Path.{_≡_, _∙_, ap, ap₂, refl, subst, sym}
 use Prim.Native.Nat.{ℕ, zero, suc, _+_, _-_, _*_, _%_, _≤_, _<_, suc-le-suc}
 use native.Mathlib.Decide.{ℕ-discrete, decLt}
-use native.Mathlib.Nat.{eq-or-lt-of-le, le-of-suc-le-suc, le-refl, mul-le-mul-right, mul-pos, not-suc-le-zero}
+use native.Mathlib.Nat.{eq-or-lt-of-le, le-of-suc-le-suc, le-refl, mul-pos, not-suc-le-zero}
 use native.Mathlib.Numerals.{add-one}
 use native.Mathlib.Omega.{arith}
 use lib.ListN.{length, getD, getD-replicate, take, drop, replicate, set}
 use lib.Seq.{append-snoc, drop-cons, getD-set-other, getD-set-same, getD-take, length-take-le, set-at, take-suc}
 use Rattle.laws.specs.Block.{Means, cycle-full, cycle-zero, length-cycle, state-means, sum-cycle}
-use Rattle.laws.specs.Cut.{length-block, store-sum}
+use Rattle.laws.specs.Cut.{block-fits, length-block, part-block, store-sum}
 use Rattle.laws.specs.Distinct.{Below, Distinct, pigeon-absent}
 use Rattle.laws.specs.Lists.{length-tabulate, low-drop, low-take, sum-append, tabulate-more, tabulate-same}
 use Rattle.laws.specs.Stage.{absent-at}
@@ -288,12 +288,7 @@ scanned-one k L m xs r s a b =
 
 -- block j lies within the cells
 pub block-end : (k m j n : ℕ) → m * k ≤ n → j < m → j * k + k ≤ n
-block-end k m j n h l = omega (arith, mul-le-mul-right {m = suc j} {n = m} k l)
-
--- the part from j * k to j * k + k is block j
-pub part-block : (k : ℕ) (xs : List ℕ) (j : ℕ) → take (j * k + k - j * k) (drop (j * k) xs) ≡ block k xs j
-unfolding block
-part-block k xs j = let q : j * k + k - j * k ≡ k = omega arith in ap (λ (n : ℕ). take n (drop (j * k) xs)) q
+block-end k m j n h l = omega (arith, block-fits k j m l)
 
 -- what a look at that part says of block j
 pub part-state : (k L : ℕ) (xs : List ℕ) (j : ℕ) (s : State) → j * k + k ≤ length xs

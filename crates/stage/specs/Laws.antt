@@ -5,12 +5,12 @@ use mathlib.Core.Logic.{_≢_, ⊎-elim}
 use mathlib.Core.Path.{_≡_, _∙_, ap, refl, subst, sym}
 use Prim.Native.Nat.{ℕ, suc, _+_, _-_, _*_, _^_, _≤_, _<_}
 use native.Mathlib.Decide.{ℕ-discrete}
-use native.Mathlib.Nat.{eq-or-lt-of-le, le-of-suc-le-suc, mul-le-mul-right}
+use native.Mathlib.Nat.{eq-or-lt-of-le, le-of-suc-le-suc}
 use native.Mathlib.Numerals.{add-one}
 use native.Mathlib.Omega.{arith}
 use lib.ListN.{drop, getD, getD-replicate, length, length-append, length-set, set, take, List·getD-append}
 use lib.Seq.{getD-append-seam, getD-set-other, getD-set-same}
-use Rattle.laws.specs.Cut.{length-block, low-block}
+use Rattle.laws.specs.Cut.{block-fits, length-block, low-block, part-block}
 use Rattle.laws.specs.Stage.{absent-at}
 use Rattle.rules.specs.Batches.{entryOf}
 use Rattle.rules.specs.Cells.{Low, block, sum}
@@ -20,34 +20,23 @@ use Rattle.stage.specs.LiveLaws.{absent-append, indexes-append, live-blo
 use Rattle.stage.specs.Meaning.{BatchFits, ClosedFrom, FirstAt, Home, Passed, begun, entryAt, has, hasNot, liveBlock, withFree}
 use Rattle.stage.specs.declared.StageScan.{StageScan}
 
--- ---- a block lent on
-
--- the part lent is the block
-pub part-is-block : (w x : ℕ) (s : List ℕ) → take (x * w + w - x * w) (drop (x * w) s) ≡ block w s x
-unfolding block
-part-is-block w x s = let e : x * w + w - x * w ≡ w = omega arith in ap (λ (n : ℕ). take n (drop (x * w) s)) e
-
--- a block before the n-th ends within n blocks
-pub block-inside : (w x n : ℕ) → x < n → x * w + w ≤ n * w
-block-inside w x n h = omega (arith, mul-le-mul-right {m = suc x} {n = n} w h)
-
 -- ---- the look for the next index block
 
 module _ (w q L x : ℕ) (batch : List ℕ) (fits : BatchFits w q L batch) (h : x < q) where
   -- an index block has w cells
   index-length : length (block w batch x) ≡ w
-  index-length = length-block w batch x (omega (arith, block-inside w x q h, fits .holds))
+  index-length = length-block w batch x (omega (arith, block-fits w x q h, fits .holds))
 
   -- an index block may be read
   pub index-asked : (suc L ^ length (take (x * w + w - x * w) (drop (x * w) batch)) ≤ 16777216) × Low L (take (x * w + w - x * w) (drop (x * w) batch))
   index-asked =
-      subst (λ (b : List ℕ). (suc L ^ length b ≤ 16777216) × Low L b) (sym (part-is-block w x batch))
+      subst (λ (b : List ℕ). (suc L ^ length b ≤ 16777216) × Low L b) (sym (part-block w batch x))
       (subst (λ (n : ℕ). suc L ^ n ≤ 16777216) (sym index-length) (fits .narrow), low-block L w batch x (fits .low))
 
   -- and says what the entry is
   pub index-said : entryOf L (length (take (x * w + w - x * w) (drop (x * w) batch))) (take (x * w + w - x * w) (drop (x * w) batch)) ≡ entryAt L w batch x
   index-said =
-      ap (λ (b : List ℕ). entryOf L (length b) b) (part-is-block w x batch)
+      ap (λ (b : List ℕ). entryOf L (length b) b) (part-block w batch x)
       ∙ ap (λ (n : ℕ). entryOf L n (block w batch x)) index-length
 
 module _ (L w : ℕ) (batch : List ℕ) (from : ℕ) where

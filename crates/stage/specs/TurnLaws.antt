@@ -16,8 +16,8 @@ use Rattle.rules.specs.Batches.{entryOf}
 use Rattle.rules.specs.Cells.{Low, block, chop, sum}
 use Rattle.rules.specs.SearchLaws.{pick-yes}
 use Rattle.rules.specs.Stage.{Entry, Names, StageOk, closed, index, indexes, liveWeights}
-use Rattle.staged.specs.Laws.{past-full}
-use Rattle.staged.specs.Meaning.{FullFrom}
+use Rattle.block.specs.Meaning.{RunFrom}
+use Rattle.block.specs.RunLaws.{past-full}
 use Rattle.stage.specs.Laws.{home-nowhere, home-there, passed-first-free, passed-free, passed-full, passed-none, passed-own}
 use Rattle.stage.specs.LiveLaws.{indexes-append, names-at, names-once, weights-append}
 use Rattle.stage.specs.Meaning.{ClosedFrom, NextIndex, Passed, ScanAt, StageScanned, Turn, begun, broken, endedBy, entries, entryAt, next-at, next-nowhere, withFree}
@@ -169,7 +169,7 @@ module _ {k W none len : ℕ} {cells : List ℕ} {L w : ℕ} {batch : List ℕ} 
 
 -- full parity blocks are passed in runs
 pub turn-past : {k none len : ℕ} {cells : List ℕ} {L w : ℕ} {batch : List ℕ} {q j x : ℕ} {s : StageScan} → Low L cells → ScanAt k (len * L) none len cells L w batch q j x s
-    → {r : ℕ} → j ≤ r → r ≤ none → FullFrom len L cells j r → ScanAt k (len * L) none len cells L w batch q r x s
+    → {r : ℕ} → j ≤ r → r ≤ none → RunFrom len L cells j r → ScanAt k (len * L) none len cells L w batch q r x s
 turn-past {k} {none} {len} {cells} {L} {w} {batch} {q} {j} {x} {s} l h {r} a b f =
     run-keeps (λ y. ScanAt k (len * L) none len cells L w batch q y x s) j r a
     (λ y c d g. turn-full g {v = sum (block len cells y)} (omega arith) refl (past-full len L j r cells l f y c d)) h

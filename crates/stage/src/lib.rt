@@ -1,6 +1,6 @@
 // One stage from 1 up: its check, every bit's block and the place of a change, in one pass over its parity blocks. Assumes nothing.
+use block::past_run;
 use staged::Index;
-use staged::past_full;
 ghost use mathlib.Core.Path.{_≡_};
 ghost use Prim.Native.Nat.{_+_, _-_, _*_, _≤_, _<_};
 ghost use lib.ListN.{length};
@@ -131,7 +131,7 @@ pub fn scan_stage(
         let v = weight_of(cells, len, j);
         at += 1;
         if v == len * top as usize {
-            at = past_full(cells, len, count, at, top);
+            at = past_run(cells, len, count, at, top);
             continue;
         }
         let Live::At(slot, u) = next_index(batch, w, 2 * (k - 1), top, next) else {

@@ -4,26 +4,23 @@ use mathlib.Core.List.{List, [], _++_, _∷_, append-assoc, append-nil}
 use mathlib.Core.Path.{_∙_, _≡_, ap, ap₂, refl, subst, sym}
 use Prim.Native.Nat.{_%_, _*_, _+_, _-_, _/_, _<_, _^_, _≤_, suc, zero, ℕ}
 use native.Mathlib.Decide.{decLe, decLt}
-use native.Mathlib.Nat.{add-mul, div-add-mod', div-le-self, div-lt-iff-lt-mul, div-mul-le-self, le-div-iff-mul-le, le-of-suc-le-suc, mod-lt, mul-le-mul-left, mul-le-mul-right, not-suc-le-zero, pow-le-pow-right, pow-suc, pow-zero}
+use native.Mathlib.Nat.{div-add-mod', div-lt-iff-lt-mul, le-of-suc-le-suc, mod-lt, mul-le-mul-left, mul-le-mul-right, not-suc-le-zero, pow-le-pow-right, pow-suc, pow-zero}
 use native.Mathlib.Numerals.{add-one}
 use native.Mathlib.Omega.{arith}
-use lib.ListN.{drop, getD, length, length-append, length-drop, length-take, length-replicate, replicate, replicate-append-replicate, set, take}
+use lib.ListN.{drop, getD, length, length-append, length-replicate, replicate, replicate-append-replicate, set, take}
 use lib.Seq.{drop-drop, drop-length, length-take-le, take-suc, take-suc-set}
-use Rattle.laws.specs.Cut.{low-block}
 use Rattle.laws.specs.Index.{digits-low, digits-num, length-digits, num-digits, num-full, num-lt, pow-pos′}
 use Rattle.laws.specs.Lists.{low-append, low-replicate, low-take, sum-replicate}
 use Rattle.laws.specs.Live.{count-full, run-keeps}
-use Rattle.laws.specs.Splice.{part, part-part}
-use Rattle.block.specs.Laws.{part-weight}
-use Rattle.block.specs.Meaning.{leastOf}
-use Rattle.block.specs.StateLaws.{sum-low}
+use Rattle.block.specs.Meaning.{RunFrom}
+use Rattle.block.specs.RunLaws.{past-full}
 use Rattle.rules.specs.Batches.{batch, batchCells, digits, entryOf, number}
 use Rattle.rules.specs.Cells.{Low, block, chop, same?, store, sum}
 use Rattle.rules.specs.Search.{Found, at, done, first, nowhere, pick}
 use Rattle.rules.specs.SearchLaws.{First, first-eq, first-is, first-unique, pick-elim, pick-no, pick-yes}
 use Rattle.rules.specs.Stage.{closed, index, liveWeights}
 use Rattle.rules.specs.Staged.{later, liveCount, moveTo, parityCount, parityLength}
-use Rattle.staged.specs.Meaning.{FullFrom, laterFrom, laterLeft, moved, stageLeft}
+use Rattle.staged.specs.Meaning.{laterFrom, laterLeft, moved, stageLeft}
 
 -- ---- the number of an index block
 
@@ -136,15 +133,6 @@ fill-turn b i v h e =
 
 -- ---- a block as a part of the cells, from j times w to j times w + w
 
-pub block-fits : (w j n : ℕ) → j < n → j * w + w ≤ n * w
-block-fits w j n h = omega (arith, mul-le-mul-right {m = suc j} {n = n} w h)
-
-pub part-block : (w : ℕ) (xs : List ℕ) (j : ℕ) → take (j * w + w - j * w) (drop (j * w) xs) ≡ block w xs j
-unfolding block
-part-block w xs j =
-    let q : j * w + w - j * w ≡ w = omega arith in
-    ap (λ (n : ℕ). take n (drop (j * w) xs)) q
-
 -- the part put back as b is the cells with block j set to b
 pub part-store : (w : ℕ) (xs : List ℕ) (j : ℕ) (b : List ℕ) → take (j * w) xs ++ (b ++ drop (j * w + w - j * w) (drop (j * w) xs)) ≡ store w xs j b
 unfolding store
@@ -155,43 +143,8 @@ part-store w xs j b =
 
 -- ---- blocks that are passed over in runs
 
--- how many blocks of len cells a run of 64 cells has
-pub run-blocks : (len : ℕ) → 1 ≤ len → len ≤ 64 → (1 ≤ 64 / len) × (64 / len ≤ 64) × (64 / len * len ≤ 64)
-run-blocks len h l = (le-div-iff-mul-le {k = len} {x = 1} {y = 64} h .1 (omega arith), div-le-self 64 len, div-mul-le-self 64 len)
-
--- no block is passed over yet
-pub past-none : (len L from : ℕ) (cells : List ℕ) → FullFrom len L cells from from
-past-none len L from cells x a b = absurd (omega arith)
-
--- where no cell of a run is below L, its blocks are passed over too
-pub past-more : (len L blocks n from j : ℕ) (cells : List ℕ) → blocks * len ≤ n → j * len + n ≤ length cells
-    → L ≤ leastOf (take n (drop (j * len) cells)) → FullFrom len L cells from j → FullFrom len L cells from (j + blocks)
-unfolding block
-past-more len L blocks n from j cells h l g f x a b = go (decLt x j)
-  where
-    go : Dec (x < j) → len * L ≤ sum (take len (drop (x * len) cells))
-    go (yes p) = f x a p
-    go (no p) =
-        let c : ℕ = (x - j) * len in
-        let s : j + (x - j) ≡ x = omega arith in
-        let e : j * len + c ≡ x * len = sym (add-mul j (x - j) len) ∙ ap (λ (y : ℕ). y * len) s in
-        let r : c + len ≤ n = omega (arith, block-fits len (x - j) blocks (omega arith)) in
-        let t : length (take n (drop (j * len) cells)) ≡ n = length-take-le n (drop (j * len) cells) (omega (arith, length-drop (j * len) cells)) in
-        let q : part c len (part (j * len) n cells) ≡ part (x * len) len cells = part-part (j * len) n c len cells r ∙ ap (λ (y : ℕ). part y len cells) e in
-        subst (λ (b : List ℕ). len * L ≤ sum b) q (part-weight L c len (take n (drop (j * len) cells)) g (omega arith))
-
--- a block of at most len cells that weighs what a full one does, or more, is full
-pub heavy-full : (len L : ℕ) (b : List ℕ) → length b ≤ len → Low L b → len * L ≤ sum b → sum b ≡ len * L
-heavy-full len L b h l g = omega (arith, sum-low L b l, mul-le-mul-right {m = length b} {n = len} L h)
-
--- where no level is above L, the blocks passed over are full
-pub past-full : (len L from to : ℕ) (cells : List ℕ) → Low L cells → FullFrom len L cells from to → (x : ℕ) → from ≤ x → x < to → sum (block len cells x) ≡ len * L
-unfolding block
-past-full len L from to cells l f x a b =
-    heavy-full len L (block len cells x) (omega (arith, length-take len (drop (x * len) cells))) (low-block L len cells x l) (f x a b)
-
--- and count nothing
-pub count-past : (len L from to : ℕ) (cells : List ℕ) → Low L cells → from ≤ to → FullFrom len L cells from to
+-- full blocks passed over count nothing
+pub count-past : (len L from to : ℕ) (cells : List ℕ) → Low L cells → from ≤ to → RunFrom len L cells from to
     → length (liveWeights (len * L) (chop len to cells)) ≡ length (liveWeights (len * L) (chop len from cells))
 count-past len L from to cells l h f =
     run-keeps (λ x. length (liveWeights (len * L) (chop len x cells)) ≡ length (liveWeights (len * L) (chop len from cells))) from to h

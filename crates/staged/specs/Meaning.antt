@@ -1,6 +1,6 @@
 -- What the answers of the leaves of a staged sheet mean, as definitions of the rules. Assumes nothing.
 use mathlib.Core.List.{List}
-use Prim.Native.Nat.{ℕ, zero, suc, _-_, _*_, _^_, _≤_, _<_}
+use Prim.Native.Nat.{ℕ, zero, suc, _-_, _*_, _^_}
 use native.Mathlib.Decide.{decLe, decLt}
 use lib.ListN.{length}
 use Rattle.rules.specs.Cells.{block, chop, sum}
@@ -27,10 +27,6 @@ asFound Zero = nowhere
 -- how many stages are left at the highest of n batches of w cells with a cell above 0
 abbrev pub stageLeft : ℕ → ℕ → List ℕ → Found
 stageLeft w n xs = first (λ d. decLt 0 (sum (block w xs (n - 1 - d)))) n
-
--- every block from one number up to another weighs what a full one does, or more
-abbrev pub FullFrom : ℕ → ℕ → List ℕ → ℕ → ℕ → Type 0
-FullFrom len L cells from to = (x : ℕ) → from ≤ x → x < to → len * L ≤ sum (block len cells x)
 
 -- the later stage that was found, told by how many stages are left there
 abbrev pub asLater : Later → Found

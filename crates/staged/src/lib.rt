@@ -6,9 +6,9 @@ ghost use Rattle.rules.specs.Cells.{Low, block, store, chop};
 ghost use Rattle.rules.specs.Stage.{raise, liveWeights};
 ghost use Rattle.rules.specs.Staged.{parityLength};
 ghost use Rattle.rules.specs.Batches.{digits, entryOf};
-ghost use Rattle.staged.specs.Meaning.{FullFrom, asEntry, asFound, stageLeft, asLater, laterFrom};
+ghost use Rattle.staged.specs.Meaning.{asEntry, asFound, stageLeft, asLater, laterFrom};
 use block::all_zero;
-use block::least;
+use block::past_run;
 use block::sum_of;
 
 // What an index block says: its number, or that it is full.
@@ -87,30 +87,6 @@ pub fn raise_parity(cells: &mut [u8], len: usize, j: usize, top: u8)
     raise_one(&mut cells[a..e], top);
 }
 
-// Past whole runs of 64 cells at the top level: the number of the block, from a number on, to look at next. Every block passed over is full.
-pub fn past_full(cells: &[u8], len: usize, count: usize, from: usize, top: u8) -> usize
-    requires { ⌜ (1 ≤ len) × (count * len ≤ length (now cells)) × (length (now cells) ≤ 65536) × (from ≤ count) ⌝ }
-    ensures { λ r. ⌜ (from ≤ r) × (r ≤ count) × FullFrom len top (now (cells .entry)) from r ⌝ }
-{
-    if 64 < len {
-        return from;
-    }
-    let step = 64 / len;
-    let mut j = from;
-    while j + step <= count {
-        let a = j * len;
-        let e = a + 64;
-        if cells.len() < e {
-            return j;
-        }
-        if least(&cells[a..e]) < top {
-            return j;
-        }
-        j += step;
-    }
-    j
-}
-
 // How many of the first `count` blocks of `len` cells are live.
 pub fn count_live(cells: &[u8], len: usize, count: usize, top: u8) -> usize
     requires { ⌜ (count * len ≤ length (now cells)) × (1 ≤ len) × (len ≤ 65536) × (length (now cells) ≤ 65536) × Low top (now cells) ⌝ }
@@ -124,7 +100,7 @@ pub fn count_live(cells: &[u8], len: usize, count: usize, top: u8) -> usize
         let e = a + len;
         j += 1;
         if sum_of(&cells[a..e]) == full {
-            j = past_full(cells, len, count, j, top);
+            j = past_run(cells, len, count, j, top);
             continue;
         }
         live += 1;

@@ -60,8 +60,8 @@ sum-of-requires c κs =
     let a = o .before .before .before .args in
     simp (length-take, length-drop) (omega (arith, inside o, long o))
 
-past-full-requires : tie.Need-past-full-requires Inv-loop μ-loop
-past-full-requires c κs =
+past-run-requires : tie.Need-past-run-requires Inv-loop μ-loop
+past-run-requires c κs =
     let o = c .before .before .before .before .before in
     let g = o .before .before .before .pre in
     let e = same-long g (o .before .loop .inv) in
@@ -77,7 +77,7 @@ loop-again c =
     let a = o .before .before .before .args in
     let q : l .j * a .len + a .len - l .j * a .len ≡ a .len = omega arith in
     let h = going-full (o .before .before .before .pre) (l .inv) (o .loop-test .taken) (rw q at (sym (c .before .before .before .sum-of .ensures) ∙ c .before .before .if1 .taken)) in
-    going-past (o .before .before .before .pre) h (c .past-full .ensures .0) (c .past-full .ensures .1) (c .past-full .ensures .2)
+    going-past (o .before .before .before .pre) h (c .past-run .ensures .0) (c .past-run .ensures .1) (c .past-run .ensures .2)
 
 mul-record-live : tie.Need-mul-record-live Inv-loop μ-loop
 mul-record-live c = omega (arith, index-room (c .before .before .before .before .before .before .before .before .pre) (c .before .before .before .before .before .before .loop .inv))
@@ -184,7 +184,7 @@ move-to-spec =
     part-sum-of-start
     part-sum-of-end
     sum-of-requires
-    past-full-requires
+    past-run-requires
     loop-less
     loop-again
     mul-record-live

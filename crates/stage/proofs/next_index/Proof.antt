@@ -3,7 +3,8 @@ use mathlib.Core.Path.{_≡_, _∙_, ap, sym}
 use Prim.Native.Nat.{_-_, _*_, _+_, _≤_}
 use native.Mathlib.Omega.{arith}
 use lib.ListN.{length}
-use Rattle.stage.specs.Laws.{block-inside, closed-more, closed-none, index-asked, index-said}
+use Rattle.laws.specs.Cut.{block-fits}
+use Rattle.stage.specs.Laws.{closed-more, closed-none, index-asked, index-said}
 use Rattle.stage.specs.Meaning.{ClosedFrom, entryAt, next-at, next-nowhere}
 use Rattle.staged.specs.Meaning.{asEntry}
 use borrow.Author.Needs.{needs}
@@ -23,7 +24,7 @@ loop-holds c = (omega arith, closed-none (c .before .args .top) (c .before .args
 inside : (c : tie.In-loop Inv-loop μ-loop) → c .before .loop .x * c .before .before .before .args .w + c .before .before .before .args .w ≤ length (c .before .before .before .args .batch .now)
 inside c =
     let a = c .before .before .before .args in
-    omega (arith, block-inside (a .w) (c .before .loop .x) (a .q) (c .loop-test .taken))
+    omega (arith, block-fits (a .w) (c .before .loop .x) (a .q) (c .loop-test .taken))
 
 mul-a : tie.Need-mul-a Inv-loop μ-loop
 mul-a c = omega (arith, inside c)

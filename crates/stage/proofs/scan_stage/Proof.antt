@@ -6,7 +6,7 @@ use native.Mathlib.Nat.{mul-le-mul}
 use native.Mathlib.Omega.{arith}
 use borrow.Author.Needs.{needs}
 use borrow.Author.Tests.{ltb-false, ltb-true}
-use Rattle.stage.specs.Laws.{block-inside}
+use Rattle.laws.specs.Cut.{block-fits}
 use Rattle.stage.specs.Meaning.{ScanAt, Turn}
 use Rattle.stage.specs.TurnLaws.{scan-begun, scan-ended, too-few, too-great, turn-begun, turn-first-free, turn-free, turn-full, turn-own, turn-past, twice}
 use Rattle.stage.proofs.scan_stage.Statement.{statement}
@@ -27,7 +27,7 @@ loop-holds c = rw (c .begin .ensures) (scan-begun (c .before .before .before .pr
 weight-of-requires : tie.Need-weight-of-requires Inv-loop μ-loop
 weight-of-requires c κs =
     let a = c .before .before .before .before .before .args in
-    omega (arith, block-inside (a .len) (c .before .loop .at) (a .count) (c .loop-test .taken))
+    omega (arith, block-fits (a .len) (c .before .loop .at) (a .count) (c .loop-test .taken))
 
 add-at : tie.Need-add-at Inv-loop μ-loop
 add-at c = search needs
@@ -35,12 +35,12 @@ add-at c = search needs
 mul-if1 : tie.Need-mul-if1 Inv-loop μ-loop
 mul-if1 c =
     let a = c .before .before .before .before .before .before .args in
-    let h : a .len ≤ 65536 = omega (arith, block-inside (a .len) (c .before .before .loop .at) (a .count) (c .before .loop-test .taken)) in
+    let h : a .len ≤ 65536 = omega (arith, block-fits (a .len) (c .before .before .loop .at) (a .count) (c .before .loop-test .taken)) in
     let g : a .top ≤ 255 = omega arith in
     omega (arith, mul-le-mul h g)
 
-past-full-requires : tie.Need-past-full-requires Inv-loop μ-loop
-past-full-requires c κs = search needs
+past-run-requires : tie.Need-past-run-requires Inv-loop μ-loop
+past-run-requires c κs = search needs
 
 loop-less : tie.Need-loop-less Inv-loop μ-loop
 loop-less c = search needs
@@ -50,7 +50,7 @@ loop-again c =
     let v = c .before .before in
     let l = v .before .before in
     let h = turn-full (l .loop .inv) (v .before .loop-test .taken) (v .weight-of .ensures) (c .before .if1 .taken) in
-    turn-past (l .before .before .before .before .pre .low) h (c .past-full .ensures .0) (c .past-full .ensures .1) (c .past-full .ensures .2)
+    turn-past (l .before .before .before .before .pre .low) h (c .past-run .ensures .0) (c .past-run .ensures .1) (c .past-run .ensures .2)
 
 sub-next-index : tie.Need-sub-next-index Inv-loop μ-loop
 sub-next-index c = search needs
@@ -187,7 +187,7 @@ scan-stage-spec =
     weight-of-requires
     add-at
     mul-if1
-    past-full-requires
+    past-run-requires
     loop-less
     loop-again
     sub-next-index

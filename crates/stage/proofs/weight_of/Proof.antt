@@ -1,7 +1,7 @@
 -- `stage::weight_of` meets its contract: the part lent on is the block. Assumes nothing.
 use mathlib.Core.Path.{_∙_, ap}
 use Rattle.rules.specs.Cells.{sum}
-use Rattle.stage.specs.Laws.{part-is-block}
+use Rattle.laws.specs.Cut.{part-block}
 use borrow.Author.Needs.{needs}
 use Rattle.stage.proofs.weight_of.Statement.{statement}
 use Rattle.stage.proofs.weight_of.Tie as tie
@@ -27,7 +27,7 @@ sum-of-requires c κs = search needs
 returns : tie.Need-returns
 returns c =
     let a = c .before .before .before .args in
-    c .sum-of .ensures ∙ ap sum (part-is-block (a .len) (a .j) (a .cells .now))
+    c .sum-of .ensures ∙ ap sum (part-block (a .len) (a .cells .now) (a .j))
 
 pub weight-of-spec : {M : Type 1} → statement M
 weight-of-spec =

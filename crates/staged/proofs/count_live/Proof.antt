@@ -7,14 +7,15 @@ use lib.ListN.{length, take, drop, length-drop, length-take}
 use Rattle.laws.specs.Live.{count-full, count-more}
 use Rattle.rules.specs.Cells.{block, chop, sum}
 use Rattle.rules.specs.Stage.{liveWeights}
-use Rattle.staged.specs.Laws.{block-fits, count-past, part-block}
+use Rattle.laws.specs.Cut.{block-fits, part-block}
+use Rattle.staged.specs.Laws.{count-past}
 use borrow.Author.Needs.{needs}
 use Rattle.staged.proofs.count_live.Statement.{statement}
 use Rattle.staged.proofs.count_live.Tie as tie
 use Rattle.staged.proofs.count_live.Reads as reads
 use Rattle.staged.proofs.count_live.Lts as lts
 use Rattle.block.proofs.sum_of.Reads as sum-of-reads
-use Rattle.staged.proofs.past_full.Reads as past-full-reads
+use Rattle.block.proofs.past_run.Reads as past-run-reads
 
 abbrev Inv-loop : tie.InvT-loop
 Inv-loop cells len count top full live₀ j₀ live j = (j ≤ count) × (live ≡ length (liveWeights (len * top) (chop len j cells))) × (live ≤ j)
@@ -65,8 +66,8 @@ part-sum-of-end c = omega (arith, inside c)
 sum-of-requires : tie.Need-sum-of-requires Inv-loop μ-loop
 sum-of-requires c κs = simp (length-take, length-drop) (omega arith)
 
-past-full-requires : tie.Need-past-full-requires Inv-loop μ-loop
-past-full-requires c κs = search needs
+past-run-requires : tie.Need-past-run-requires Inv-loop μ-loop
+past-run-requires c κs = search needs
 
 loop-less : tie.Need-loop-less Inv-loop μ-loop
 loop-less c = search needs
@@ -77,8 +78,8 @@ loop-again c =
     let a = o .before .before .before .args in
     let j = o .before .loop .j in
     let e = count-full (a .len * a .top) (a .len) j (a .cells .now) (weighs o _ (c .before .before .sum-of .ensures) ∙ c .before .if1 .taken) in
-    let f = count-past (a .len) (a .top) (j + 1) (c .past-full .result) (a .cells .now) (o .before .before .before .pre .4) (c .past-full .ensures .0) (c .past-full .ensures .2) in
-    (c .past-full .ensures .1, omega arith, omega arith)
+    let f = count-past (a .len) (a .top) (j + 1) (c .past-run .result) (a .cells .now) (o .before .before .before .pre .4) (c .past-run .ensures .0) (c .past-run .ensures .2) in
+    (c .past-run .ensures .1, omega arith, omega arith)
 
 add-live : tie.Need-add-live Inv-loop μ-loop
 add-live c = search needs
@@ -115,7 +116,7 @@ count-live-spec =
     part-sum-of-start
     part-sum-of-end
     sum-of-requires
-    past-full-requires
+    past-run-requires
     loop-less
     loop-again
     add-live

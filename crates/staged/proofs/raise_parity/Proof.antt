@@ -2,7 +2,8 @@
 use borrow.Author.Needs.{needs}
 use Rattle.rules.specs.Cells.{block}
 use Rattle.rules.specs.Stage.{raise}
-use Rattle.staged.specs.Laws.{part-block, part-store}
+use Rattle.laws.specs.Cut.{part-block}
+use Rattle.staged.specs.Laws.{part-store}
 use Rattle.staged.proofs.raise_parity.Statement.{statement}
 use Rattle.staged.proofs.raise_parity.Tie as tie
 use Rattle.staged.proofs.raise_parity.Reads as reads

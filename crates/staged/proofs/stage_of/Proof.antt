@@ -8,7 +8,8 @@ use lib.ListN.{length}
 use Rattle.rules.specs.Cells.{block, sum}
 use Rattle.rules.specs.Search.{nowhere}
 use Rattle.rules.specs.SearchLaws.{First, first-hit, first-miss, first-none}
-use Rattle.staged.specs.Laws.{block-fits, part-block, some-sum, stage-is, zero-sum}
+use Rattle.laws.specs.Cut.{block-fits, part-block}
+use Rattle.staged.specs.Laws.{some-sum, stage-is, zero-sum}
 use Rattle.staged.proofs.stage_of.Statement.{statement}
 use Rattle.staged.proofs.stage_of.Tie as tie
 use Rattle.staged.proofs.stage_of.Reads as reads

@@ -1,24 +1,21 @@
--- `staged::past_full` meets its contract: every block passed over is full. Assumes nothing.
+-- `block::past_run` meets its contract: every block passed over weighs what the level says. Assumes nothing.
 use mathlib.Core.Path.{_≡_}
 use Prim.Native.Nat.{_*_, _+_, _-_, _/_, _≤_}
 use native.Mathlib.Nat.{le-mul-of-pos-right, mul-le-mul-right}
 use native.Mathlib.Omega.{arith}
-use Rattle.staged.specs.Laws.{block-fits, past-more, past-none, run-blocks}
-use Rattle.staged.specs.Meaning.{FullFrom}
+use Rattle.block.specs.RunLaws.{past-more, past-none, run-blocks}
+use Rattle.block.specs.Meaning.{RunAt, RunFrom}
 use borrow.Author.Needs.{needs}
+use borrow.Author.Tests.{not-false}
 use lib.ListN.{take, drop}
-use Rattle.block.specs.Meaning.{leastOf}
-use Rattle.staged.proofs.past_full.Statement.{statement}
-use Rattle.staged.proofs.past_full.Tie as tie
-use Rattle.staged.proofs.past_full.Reads as reads
-use Rattle.staged.proofs.past_full.Lts as lts
-use Rattle.block.proofs.least.Reads as least-reads
+use Rattle.block.proofs.past_run.Statement.{statement}
+use Rattle.block.proofs.past_run.Tie as tie
 
 abbrev Inv-loop : tie.InvT-loop
-Inv-loop cells len count from top step j₀ j = (from ≤ j) × (j ≤ count) × FullFrom len top cells from j × ((1 ≤ step) × (step ≤ 64) × (step * len ≤ 64))
+Inv-loop cells len count from level step j₀ j = (from ≤ j) × (j ≤ count) × RunFrom len level cells from j × ((1 ≤ step) × (step ≤ 64) × (step * len ≤ 64))
 
 abbrev μ-loop : tie.MeasureT-loop
-μ-loop cells len count from top step j₀ j = count - j
+μ-loop cells len count from level step j₀ j = count - j
 
 returns : tie.Need-returns Inv-loop μ-loop
 returns c = search needs
@@ -29,7 +26,7 @@ div-step c = search needs
 loop-holds : tie.Need-loop-holds Inv-loop μ-loop
 loop-holds c =
     let a = c .before .before .args in
-    (omega arith, omega arith, past-none (a .len) (a .top) (a .from) (a .cells .now), run-blocks (a .len) (omega arith) (omega arith))
+    (omega arith, omega arith, past-none (a .len) (a .level) (a .from) (a .cells .now), run-blocks (a .len) (omega arith) (omega arith))
 
 add-loop : tie.Need-add-loop Inv-loop μ-loop
 add-loop c =
@@ -51,17 +48,17 @@ add-e c = omega (arith, begins c)
 returns-2 : tie.Need-returns-2 Inv-loop μ-loop
 returns-2 c = search needs
 
-sub-least : tie.Need-sub-least Inv-loop μ-loop
-sub-least c = search needs
+sub-run-at : tie.Need-sub-run-at Inv-loop μ-loop
+sub-run-at c = search needs
 
-part-least-start : tie.Need-part-least-start Inv-loop μ-loop
-part-least-start c = search needs
+part-run-at-start : tie.Need-part-run-at-start Inv-loop μ-loop
+part-run-at-start c = search needs
 
-part-least-end : tie.Need-part-least-end Inv-loop μ-loop
-part-least-end c = search needs
+part-run-at-end : tie.Need-part-run-at-end Inv-loop μ-loop
+part-run-at-end c = search needs
 
-least-requires : tie.Need-least-requires Inv-loop μ-loop
-least-requires c κs = search needs
+run-at-requires : tie.Need-run-at-requires Inv-loop μ-loop
+run-at-requires c κs = search needs
 
 returns-3 : tie.Need-returns-3 Inv-loop μ-loop
 returns-3 c = search needs
@@ -77,18 +74,18 @@ loop-again c =
     let l = c .before .before .before .before .before in
     let a = l .before .before .before .args in
     let q : l .loop .j * a .len + 64 - l .loop .j * a .len ≡ 64 = omega arith in
-    let g : a .top ≤ leastOf (take 64 (drop (l .loop .j * a .len) (a .cells .now))) = omega (arith, rw q at (c .before .least .ensures)) in (
+    let g : RunAt (a .level) (take 64 (drop (l .loop .j * a .len) (a .cells .now))) = rw q at (c .before .run-at .ensures (not-false _ (c .if3 .left))) in (
       omega arith,
       omega arith,
-      past-more (a .len) (a .top) (64 / a .len) 64 (a .from) (l .loop .j) (a .cells .now) (l .loop .inv .3 .2) (omega arith) g (l .loop .inv .2),
+      past-more (a .len) (a .level) (64 / a .len) 64 (a .from) (l .loop .j) (a .cells .now) (l .loop .inv .3 .2) (omega arith) g (l .loop .inv .2),
       l .loop .inv .3,
     )
 
 returns-4 : tie.Need-returns-4 Inv-loop μ-loop
 returns-4 c = search needs
 
-pub past-full-spec : {M : Type 1} → statement M
-past-full-spec =
+pub past-run-spec : {M : Type 1} → statement M
+past-run-spec =
     tie.close
     (tie.spec
     Inv-loop
@@ -100,10 +97,10 @@ past-full-spec =
     mul-a
     add-e
     returns-2
-    sub-least
-    part-least-start
-    part-least-end
-    least-requires
+    sub-run-at
+    part-run-at-start
+    part-run-at-end
+    run-at-requires
     returns-3
     add-j
     loop-less

@@ -1,0 +1,91 @@
+-- Laws of runs of cells at one level, and of the blocks in them, which a scan passes over. Assumes nothing.
+use mathlib.Core.List.{List, [], _∷_}
+use mathlib.Core.Path.{_≡_, _∙_, ap, subst, sym}
+use Prim.Native.Nat.{ℕ, zero, suc, _+_, _-_, _*_, _/_, _≤_, _<_}
+use native.Mathlib.Decide.{decLt}
+use native.Mathlib.Nat.{add-mul, div-le-self, div-mul-le-self, le-div-iff-mul-le, mul-le-mul-right}
+use native.Mathlib.Omega.{arith}
+use lib.ListN.{drop, length, length-drop, length-take, take}
+use lib.Seq.{length-take-le}
+use Rattle.laws.specs.Cut.{block-fits, low-block}
+use Rattle.laws.specs.Lists.{low-drop, low-take}
+use Rattle.laws.specs.Splice.{part, part-part}
+use Rattle.rules.specs.Cells.{Low, block, sum}
+use Rattle.block.specs.Laws.{greatest-low, least-small}
+use Rattle.block.specs.Meaning.{RunAt, RunFrom, leastOf}
+use Rattle.block.specs.StateLaws.{sum-low}
+
+-- ---- a run
+
+-- the first cells of a run are no lower
+least-first : (n : ℕ) (s : List ℕ) → leastOf s ≤ leastOf (take n s)
+unfolding leastOf
+least-first zero s = least-small s
+least-first (suc n) [] = omega arith
+least-first (suc n) (x ∷ s) = omega (arith, least-first n s)
+
+-- nor are the last
+least-last : (n : ℕ) (s : List ℕ) → leastOf s ≤ leastOf (drop n s)
+unfolding leastOf
+least-last zero s = omega arith
+least-last (suc n) [] = omega arith
+least-last (suc n) (x ∷ s) = omega (arith, least-last n s)
+
+-- a run weighs at least its length times a level that no cell is below
+least-weight : (L : ℕ) (s : List ℕ) → L ≤ leastOf s → length s * L ≤ sum s
+unfolding leastOf
+least-weight L [] h = omega arith
+least-weight L (x ∷ s) h = omega (arith, least-weight L s (omega arith))
+
+-- and so do any n of its cells
+part-weight : (L a n : ℕ) (s : List ℕ) → L ≤ leastOf s → a + n ≤ length s → n * L ≤ sum (take n (drop a s))
+part-weight L a n s h l =
+    let e : length (take n (drop a s)) ≡ n = length-take-le n (drop a s) (omega (arith, length-drop a s)) in
+    let g : length (take n (drop a s)) * L ≤ sum (take n (drop a s)) = least-weight L (take n (drop a s)) (omega (arith, least-last a s, least-first n (drop a s))) in
+    rw e at g
+
+-- a run at level 0 weighs nothing, and so does any part of it
+part-nothing : (a n : ℕ) (s : List ℕ) → Low 0 s → sum (take n (drop a s)) ≡ 0
+part-nothing a n s h = omega (arith, sum-low 0 (take n (drop a s)) (low-take 0 n (drop a s) (low-drop 0 a s h)))
+
+-- ---- the blocks of a run
+
+-- how many blocks of len cells a run of 64 cells has
+pub run-blocks : (len : ℕ) → 1 ≤ len → len ≤ 64 → (1 ≤ 64 / len) × (64 / len ≤ 64) × (64 / len * len ≤ 64)
+run-blocks len h l = (le-div-iff-mul-le {k = len} {x = 1} {y = 64} h .1 (omega arith), div-le-self 64 len, div-mul-le-self 64 len)
+
+-- no block is passed over yet
+pub past-none : (len v from : ℕ) (cells : List ℕ) → RunFrom len v cells from from
+past-none len v from cells x a b = absurd (omega arith)
+
+-- the blocks of one more run are passed over too
+pub past-more : (len v blocks n from j : ℕ) (cells : List ℕ) → blocks * len ≤ n → j * len + n ≤ length cells
+    → RunAt v (take n (drop (j * len) cells)) → RunFrom len v cells from j → RunFrom len v cells from (j + blocks)
+unfolding block
+past-more len v blocks n from j cells h l g f x a b = go (decLt x j)
+  where
+    go : Dec (x < j) → (len * v ≤ sum (take len (drop (x * len) cells))) × (v ≡ 0 → sum (take len (drop (x * len) cells)) ≡ 0)
+    go (yes p) = f x a p
+    go (no p) =
+        let c : ℕ = (x - j) * len in
+        let s : j + (x - j) ≡ x = omega arith in
+        let e : j * len + c ≡ x * len = sym (add-mul j (x - j) len) ∙ ap (λ (y : ℕ). y * len) s in
+        let r : c + len ≤ n = omega (arith, block-fits len (x - j) blocks (omega arith)) in
+        let t : length (take n (drop (j * len) cells)) ≡ n = length-take-le n (drop (j * len) cells) (omega (arith, length-drop (j * len) cells)) in
+        let q : part c len (part (j * len) n cells) ≡ part (x * len) len cells = part-part (j * len) n c len cells r ∙ ap (λ (y : ℕ). part y len cells) e in
+        subst (λ (b : List ℕ). (len * v ≤ sum b) × (v ≡ 0 → sum b ≡ 0)) q (
+          part-weight v c len (take n (drop (j * len) cells)) (g .0) (omega arith),
+          λ z. part-nothing c len (take n (drop (j * len) cells)) (greatest-low 0 (take n (drop (j * len) cells)) (omega (arith, g .1 z))),
+        )
+
+-- ---- full and empty blocks
+
+-- a block of at most len cells that weighs what a full one does, or more, is full
+pub heavy-full : (len L : ℕ) (b : List ℕ) → length b ≤ len → Low L b → len * L ≤ sum b → sum b ≡ len * L
+heavy-full len L b h l g = omega (arith, sum-low L b l, mul-le-mul-right {m = length b} {n = len} L h)
+
+-- where no level is above L, the blocks passed over at level L are full
+pub past-full : (len L from to : ℕ) (cells : List ℕ) → Low L cells → RunFrom len L cells from to → (x : ℕ) → from ≤ x → x < to → sum (block len cells x) ≡ len * L
+unfolding block
+past-full len L from to cells l f x a b =
+    heavy-full len L (block len cells x) (omega (arith, length-take len (drop (x * len) cells))) (low-block L len cells x l) (f x a b .0)
