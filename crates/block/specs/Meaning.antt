@@ -1,8 +1,11 @@
 -- What the answers on one block and on runs of cells mean, as definitions of the rules. Assumes nothing.
 use mathlib.Core.List.{List, [], _∷_}
-use Prim.Native.Nat.{ℕ, _+_, _-_, _≤_, max, min}
+use mathlib.Core.Path.{_≡_}
+use Prim.Native.Nat.{ℕ, _+_, _-_, _≤_, _<_, max, min}
 use native.Mathlib.Decide.{decLt}
+use lib.ListN.{length, take, drop}
 use Rattle.rules.specs.Block.{State, empty, full, broken, active}
+use Rattle.rules.specs.Cells.{Low}
 use Rattle.rules.specs.Search.{Found, at, nowhere, pick}
 use Rattle.rules.specs.declared.Answer.the-variants.{BadLevel}
 use Rattle.rules.specs.declared.Check.{Check}
@@ -45,7 +48,7 @@ abbrev pub Falls : ℕ → List ℕ → Type 0
 Falls a [] = Unit {0}
 Falls a (x ∷ xs) = (x ≤ a) × Falls x xs
 
--- how many cells are higher than the one before them: the difference cut at 1 is 1 for such a cell and 0 for any other
+-- how many cells are higher than the one before them, counted by the difference cut at 1; before the first comes level a
 unfoldable pub rises : ℕ → List ℕ → ℕ
 rises a [] = 0
 rises a (x ∷ xs) = min 1 (x - a) + rises x xs
@@ -54,6 +57,14 @@ rises a (x ∷ xs) = min 1 (x - a) + rises x xs
 unfoldable pub lastRise : ℕ → ℕ → List ℕ → ℕ
 lastRise i a [] = 0
 lastRise i a (x ∷ xs) = max (pick (decLt a x) i 0) (lastRise (i + 1) x xs)
+
+-- a run in which one cell rises: the last rise is that cell, and the cells before it fall, as do the cells from it on
+pub record OneRise (i a : ℕ) (xs : List ℕ) : Type 0 where
+  pub cell : ℕ
+  pub inside : cell < length xs
+  pub is : lastRise i a xs ≡ i + cell
+  pub before : Falls a (take cell xs)
+  pub after : (L : ℕ) → Low L xs → Falls L (drop cell xs)
 
 -- how many cells are neither at 0 nor at L
 unfoldable pub middles : ℕ → List ℕ → ℕ

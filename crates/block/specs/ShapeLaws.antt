@@ -16,21 +16,24 @@ use Rattle.rules.specs.Block.{active, broken, cycle, ramp, stateOf}
 use Rattle.rules.specs.Cells.{Low, sum}
 use Rattle.rules.specs.Search.{pick}
 use Rattle.rules.specs.SearchLaws.{pick-elim, pick-no, pick-yes}
-use Rattle.block.specs.Meaning.{Falls, lastOf, lastRise, middles, rises, shapeOf}
+use Rattle.block.specs.Meaning.{Falls, OneRise, lastOf, lastRise, middles, rises, shapeOf}
 use Rattle.block.specs.declared.Shape.{Shape}
 use Rattle.block.specs.StateLaws.{off-all, sum-zero, under}
 
 -- ---- what a loop adds: one more cell
 
 module _ (b : List ℕ) (i : ℕ) (h : i < length b) where
+  -- to the rises
   pub rises-more : (a : ℕ) → rises a (drop i b) ≡ min 1 (getD b i 0 - a) + rises (getD b i 0) (drop (i + 1) b)
   unfolding rises
   rises-more a = rw (add-one i, drop-cons b i 0 h, rises)
 
+  -- to the last rise
   pub last-rise-more : (a : ℕ) → lastRise i a (drop i b) ≡ max (pick (decLt a (getD b i 0)) i 0) (lastRise (i + 1) (getD b i 0) (drop (i + 1) b))
   unfolding lastRise
   last-rise-more a = rw (drop-cons b i 0 h, lastRise, add-one i)
 
+  -- to the middles
   pub middles-more : (L : ℕ) → middles L (drop i b) ≡ min 1 (min (getD b i 0) (L - getD b i 0)) + middles L (drop (i + 1) b)
   unfolding middles
   middles-more L = rw (add-one i, drop-cons b i 0 h, middles)
@@ -65,17 +68,20 @@ last-cell d (x ∷ y ∷ b) h =
 
 -- ---- runs in which no cell rises
 
+-- such a run falls
 none-falls : (a : ℕ) (xs : List ℕ) → rises a xs ≡ 0 → Falls a xs
 unfolding rises
 none-falls a [] e = tt
 none-falls a (x ∷ xs) e = (omega arith, none-falls x xs (omega arith))
 
+-- and has no last rise
 none-last : (i a : ℕ) (xs : List ℕ) → rises a xs ≡ 0 → lastRise i a xs ≡ 0
 unfolding rises lastRise
 none-last i a [] e = refl
 none-last i a (x ∷ xs) e =
     pick-elim (λ n. max n (lastRise (i + 1) x xs) ≡ 0) (decLt a x) i 0 (λ h. absurd (omega arith)) (λ h. omega (arith, none-last (i + 1) x xs (omega arith)))
 
+-- two runs that fall, the second from where the first ends, are one that falls
 falls-append : (a : ℕ) (xs ys : List ℕ) → Falls a xs → Falls (lastOf a xs) ys → Falls a (xs ++ ys)
 unfolding lastOf
 falls-append a [] ys h l = l
@@ -84,13 +90,6 @@ falls-append a (x ∷ xs) ys h l = (h .0, falls-append x xs ys (h .1) l)
 -- ---- runs in which one cell rises
 
 -- the cells before it fall, and so do the cells from it on
-record OneRise (i a : ℕ) (xs : List ℕ) : Type 0 where
-  cell : ℕ
-  inside : cell < length xs
-  is : lastRise i a xs ≡ i + cell
-  before : Falls a (take cell xs)
-  after : (L : ℕ) → Low L xs → Falls L (drop cell xs)
-
 one-rise : (i a : ℕ) (xs : List ℕ) → rises a xs ≡ 1 → OneRise i a xs
 unfolding rises lastRise
 one-rise i a [] e = absurd (omega arith)
@@ -116,8 +115,9 @@ one-rise i a (x ∷ xs) e = go (decLt a x) (λ q. one-rise (i + 1) x xs q)
           after = λ L low. o .after L (low .1);
         }
 
--- ---- middles
+-- ---- cells between 0 and L, the middles
 
+-- the middles of two runs
 middles-append : (L : ℕ) (xs ys : List ℕ) → middles L (xs ++ ys) ≡ middles L xs + middles L ys
 unfolding middles
 middles-append L [] ys = omega arith
@@ -174,16 +174,20 @@ turned L v i b h e =
     sym (take-append-drop i b) ∙ ap₂ (λ (r s : List ℕ). r ++ s) (y ∙ ap (ramp L (v - n * L)) z) x
 
 module _ (L : ℕ) (b : List ℕ) (low : Low L b) (one : rises (lastOf 0 b) b ≡ 1) where
+  -- the cell that rises
   rise-there : OneRise 0 (lastOf 0 b) b
   rise-there = one-rise 0 (lastOf 0 b) b one
 
+  -- it is the start that the shape names
   start-cell : lastRise 0 (lastOf 0 b) b ≡ rise-there .cell
   start-cell = rise-there .is ∙ omega arith
 
-  pub start-in : lastRise 0 (lastOf 0 b) b < length b
+  -- a cell of the block
+  start-in : lastRise 0 (lastOf 0 b) b < length b
   start-in = omega (arith, start-cell, rise-there .inside)
 
-  pub shape-step : middles L b ≤ 1 → b ≡ cycle (length b) L (lastRise 0 (lastOf 0 b) b) (sum b)
+  -- read from there the block falls, so it is a ramp
+  shape-step : middles L b ≤ 1 → b ≡ cycle (length b) L (lastRise 0 (lastOf 0 b) b) (sum b)
   shape-step m =
       let i : ℕ = rise-there .cell in
       let l : i < length b = rise-there .inside in
@@ -220,9 +224,10 @@ unfolding middles ramp
 full-middles L v zero h = refl
 full-middles L v (suc n) h = omega (arith, full-middles L (v - L) n (omega arith))
 
-pub cycle-middles : (k L i v : ℕ) → middles L (cycle k L i v) ≤ 1
+-- of the two ramps of a step one has no middle: the first is full or the second is at 0
+step-middles : (k L i v : ℕ) → middles L (cycle k L i v) ≤ 1
 unfolding cycle
-cycle-middles k L i v = go (decLt v ((k - i) * L))
+step-middles k L i v = go (decLt v ((k - i) * L))
   where
     both : middles L (cycle k L i v) ≡ middles L (ramp L (v - (k - i) * L) i) + middles L (ramp L v (k - i))
     both = middles-append L (ramp L (v - (k - i) * L) i) (ramp L v (k - i))
@@ -238,6 +243,7 @@ rises-some a [] c l h = absurd (not-suc-le-zero l)
 rises-some a (x ∷ b) zero l h = omega arith
 rises-some a (x ∷ b) (suc c) l h = omega (arith, rises-some x b c (le-of-suc-le-suc l) h)
 
+-- where no cell is higher, none counts
 rises-none : (a : ℕ) (b : List ℕ) → ((c : ℕ) → c < length b → getD b c 0 ≤ getD (a ∷ b) c 0) → rises a b ≡ 0
 unfolding rises
 rises-none a [] h = refl
@@ -257,8 +263,9 @@ before-cell : (b : List ℕ) (c : ℕ) → 1 ≤ length b → getD b (cellBefore
 before-cell b zero h = last-cell 0 b h
 before-cell b (suc c) h = refl
 
-pub cycle-rises : (L i v : ℕ) (b : List ℕ) → 0 < L → 1 < length b → i < length b → 0 < v → v < length b * L → b ≡ cycle (length b) L i v → rises (lastOf 0 b) b ≡ 1
-cycle-rises L i v b g two l p q e =
+-- the start of a step is the one cell that rises
+step-rises : (L i v : ℕ) (b : List ℕ) → 0 < L → 1 < length b → i < length b → 0 < v → v < length b * L → b ≡ cycle (length b) L i v → rises (lastOf 0 b) b ≡ 1
+step-rises L i v b g two l p q e =
     let k : ℕ = length b in
     let up : getD b (cellBefore k i) 0 < getD b i 0 = subst (λ (r : List ℕ). getD r (cellBefore k i) 0 < getD r i 0) (sym e) (start-rises k L i v g two l p q) in
     let no-other : (c : ℕ) → c < k → c ≢ i → getD b c 0 ≤ getD b (cellBefore k c) 0 = λ c m n. subst (λ (r : List ℕ). getD r c 0 ≤ getD r (cellBefore k c) 0) (sym e) (no-other-rises k L i v g two l c m n) in
@@ -269,6 +276,7 @@ cycle-rises L i v b g two l p q e =
 -- ---- the state of a block of weight v that is neither empty nor full
 
 module _ (L : ℕ) (b : List ℕ) (v : ℕ) (w : v ≡ sum b) (two : 2 ≤ length b) (g : 0 < L) (low : Low L b) (some : v ≢ 0) (part : v ≢ length b * L) (s : Shape) (is : s ≡ shapeOf L b) where
+  -- the fields of the shape that was found
   rises-is : s .rises ≡ rises (lastOf 0 b) b
   rises-is = ap (λ (r : Shape). r .rises) is
 
@@ -286,8 +294,8 @@ module _ (L : ℕ) (b : List ℕ) (v : ℕ) (w : v ≡ sum b) (two : 2 ≤ lengt
 
   -- no rise, or more than one
   pub state-rises : s .rises ≢ 1 → broken ≡ stateOf (length b) L b
-  state-rises n = off-all L b v w two g low some part (λ j l e. n (rises-is ∙ cycle-rises L j v b g two l (omega arith) (under L b v w two g low some part) e))
+  state-rises n = off-all L b v w two g low some part (λ j l e. n (rises-is ∙ step-rises L j v b g two l (omega arith) (under L b v w two g low some part) e))
 
   -- more than one middle
   pub state-middles : 1 < s .middles → broken ≡ stateOf (length b) L b
-  state-middles h = off-all L b v w two g low some part (λ j l e. omega (arith, middles-is, cycle-middles (length b) L j v, ap (middles L) e))
+  state-middles h = off-all L b v w two g low some part (λ j l e. omega (arith, middles-is, step-middles (length b) L j v, ap (middles L) e))

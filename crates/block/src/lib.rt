@@ -130,7 +130,7 @@ fn later(a: u8, b: u8) -> u8
     if a < b { b } else { a }
 }
 
-// A block's shape; before cell 0 comes the last. No cell ends the loop early, so 16 cells are looked at together.
+// A block's shape; before cell 0 comes the last. No cell ends the loop early, so that many cells are looked at together.
 fn shape_of(b: &[u8], top: u8) -> Shape
     requires { ⌜ (1 ≤ length (now b)) × (length (now b) ≤ 64) ⌝ }
     ensures { λ r. ⌜ r ≡ shapeOf top (now (b .entry)) ⌝ }

@@ -46,7 +46,7 @@ returns-4 c =
     let w = f .before .before .before in
     let s = w .before .before in
     state-middles (s .args .top) (s .args .b .now) _ (w .weight-of .ensures) (omega arith) (omega arith) (s .pre .1) (λ e. omega arith) (λ e. omega arith)
-    _ (f .shape-of .ensures) (c .if4 .taken)
+    _ (f .shape-of .ensures) (omega arith)
 
 cast-t6 : tie.Need-cast-t6
 cast-t6 c = search needs
