@@ -3,3 +3,4 @@ pub mod Meaning
 pub mod Laws
 pub mod StateLaws
 pub mod RunLaws
+pub mod ShapeLaws

@@ -1,14 +1,12 @@
 -- What the answers on one block and on runs of cells mean, as definitions of the rules. Assumes nothing.
-use mathlib.Core.Bool.{Bool, true, false}
 use mathlib.Core.List.{List, [], _∷_}
 use mathlib.Core.Path.{_≡_}
-use Prim.Native.Nat.{ℕ, _-_, _*_, _≤_, _<_, max, min}
+use Prim.Native.Nat.{ℕ, _+_, _-_, _*_, _≤_, _<_, max, min}
 use native.Mathlib.Decide.{decLt}
-use lib.ListN.{length, getD, take, drop}
-use Rattle.laws.specs.Rise.{cellBefore}
-use Rattle.rules.specs.Block.{State, empty, full, broken, active, ramp}
-use Rattle.rules.specs.Cells.{block, same?, sum}
-use Rattle.rules.specs.Search.{Found, at, nowhere, first, pick}
+use lib.ListN.{length, take, drop}
+use Rattle.rules.specs.Block.{State, empty, full, broken, active}
+use Rattle.rules.specs.Cells.{Low, block, sum}
+use Rattle.rules.specs.Search.{Found, at, nowhere, pick}
 use Rattle.rules.specs.declared.Answer.the-variants.{BadLevel}
 use Rattle.rules.specs.declared.Check.{Check}
 use Rattle.rules.specs.declared.Check.the-variants.{Pass, Refuse}
@@ -16,8 +14,7 @@ use Rattle.block.specs.declared.Level.{Level}
 use Rattle.block.specs.declared.Level.the-variants.{Fine, Above}
 use Rattle.block.specs.declared.BlockState.{BlockState}
 use Rattle.block.specs.declared.BlockState.the-variants.{Empty, Full, Active, Broken}
-use Rattle.block.specs.declared.Start.{Start}
-use Rattle.block.specs.declared.Start.the-variants.{At, Nowhere}
+use Rattle.block.specs.declared.Shape.{Shape}
 
 -- the greatest level, 0 where there is no cell
 unfoldable pub greatestOf : List ℕ → ℕ
@@ -47,19 +44,6 @@ abbrev pub checkOf : Level → Check
 checkOf Fine = Pass
 checkOf (Above c) = Refuse (BadLevel c)
 
--- the place that the look for a start found
-abbrev pub asPlace : Start → Found
-asPlace (At c) = at c
-asPlace Nowhere = nowhere
-
--- cell c is higher than the one before it
-abbrev pub Higher : List ℕ → ℕ → Type 0
-Higher b c = getD b (cellBefore (length b) c) 0 < getD b c 0
-
--- the first cell that is higher than the one before it; before cell 0 comes the last
-unfoldable pub startOf : List ℕ → Found
-startOf b = first (λ c. decLt (getD b (cellBefore (length b) c) 0) (getD b c 0)) (length b)
-
 -- the state that a look at a block found
 abbrev pub asState : BlockState → State
 asState Empty = empty
@@ -67,10 +51,39 @@ asState Full = full
 asState (Active bit v) = active bit v
 asState Broken = broken
 
--- the cells from cell i on, as a part lent on
-abbrev pub fromCell : ℕ → List ℕ → List ℕ
-fromCell i b = take (length b - i) (drop i b)
+-- the level of a run's last cell; d where there is no cell
+unfoldable pub lastOf : ℕ → List ℕ → ℕ
+lastOf d [] = d
+lastOf d (x ∷ xs) = lastOf x xs
 
--- whether a run of cells is the ramp of weight v
-abbrev pub rampTest : ℕ → ℕ → List ℕ → Bool
-rampTest L v s = pick (same? s (ramp L v (length s))) true false
+-- no cell is higher than the one before it; before the first comes level a
+abbrev pub Falls : ℕ → List ℕ → Type 0
+Falls a [] = Unit {0}
+Falls a (x ∷ xs) = (x ≤ a) × Falls x xs
+
+-- how many cells are higher than the one before them, counted by the difference cut at 1; before the first comes level a
+unfoldable pub rises : ℕ → List ℕ → ℕ
+rises a [] = 0
+rises a (x ∷ xs) = min 1 (x - a) + rises x xs
+
+-- the last such cell, where the run begins with cell i; 0 where there is none
+unfoldable pub lastRise : ℕ → ℕ → List ℕ → ℕ
+lastRise i a [] = 0
+lastRise i a (x ∷ xs) = max (pick (decLt a x) i 0) (lastRise (i + 1) x xs)
+
+-- a run in which one cell rises: the last rise is that cell, and the cells before it fall, as do the cells from it on
+pub record OneRise (i a : ℕ) (xs : List ℕ) : Type 0 where
+  pub cell : ℕ
+  pub inside : cell < length xs
+  pub is : lastRise i a xs ≡ i + cell
+  pub before : Falls a (take cell xs)
+  pub after : (L : ℕ) → Low L xs → Falls L (drop cell xs)
+
+-- how many cells are neither at 0 nor at L
+unfoldable pub middles : ℕ → List ℕ → ℕ
+middles L [] = 0
+middles L (x ∷ xs) = min 1 (min x (L - x)) + middles L xs
+
+-- a block's shape; before cell 0 comes the last
+abbrev pub shapeOf : ℕ → List ℕ → Shape
+shapeOf L b = record { rises = rises (lastOf 0 b) b; start = lastRise 0 (lastOf 0 b) b; middles = middles L b }

@@ -2,12 +2,13 @@
 ghost use mathlib.Core.Bool.{true, false};
 ghost use mathlib.Core.List.{_++_};
 ghost use mathlib.Core.Path.{_≡_};
-ghost use Prim.Native.Nat.{_+_, _*_, _≤_, _<_, min};
+ghost use Prim.Native.Nat.{_+_, _-_, _*_, _≤_, _<_, max, min};
+ghost use native.Mathlib.Decide.{decLt};
 ghost use lib.ListN.{length, take, drop, replicate};
 ghost use Rattle.rules.specs.Search.{pick};
 ghost use Rattle.rules.specs.Cells.{sum, Low, firstAbove, same?, block, store};
-ghost use Rattle.rules.specs.Block.{ramp, cycle, stateOf};
-ghost use Rattle.block.specs.Meaning.{greatestOf, leastOf, RunAt, RunFrom, asFound, asPlace, startOf, asState};
+ghost use Rattle.rules.specs.Block.{cycle, stateOf};
+ghost use Rattle.block.specs.Meaning.{RunAt, RunFrom, greatestOf, leastOf, asFound, asState, shapeOf};
 
 // What a look at the levels finds: none above the top level, or the first cell that is.
 pub enum Level {
@@ -23,10 +24,11 @@ pub enum BlockState {
     Broken,
 }
 
-// Where a block's cycle may start.
-enum Start {
-    At(usize),
-    Nowhere,
+// A block's shape: how many cells are higher than the one before them, the last such cell, and how many are neither at 0 nor at the top level.
+struct Shape {
+    rises: u8,
+    start: u8,
+    middles: u8,
 }
 
 // The sum of the levels.
@@ -99,81 +101,97 @@ pub fn all_zero(s: &[u8]) -> bool
     greatest(s) == 0
 }
 
-// The first cell that is higher than the one before it; before cell 0 comes the last.
-fn start_of(b: &[u8]) -> Start
-    requires { ⌜ 1 ≤ length (now b) ⌝ }
-    ensures { λ r. ⌜ asPlace r ≡ startOf (now (b .entry)) ⌝ }
+// The weight of a block: a sum that needs 16 bits only.
+fn weight_of(b: &[u8]) -> usize
+    requires { ⌜ length (now b) ≤ 256 ⌝ }
+    ensures { λ r. ⌜ r ≡ sum (now (b .entry)) ⌝ }
 {
+    let mut total: u16 = 0;
+    let mut i: usize = 0;
+    while i < b.len() {
+        total += b[i] as u16;
+        i += 1;
+    }
+    total as usize
+}
+
+// 1 for a cell that is higher than the one before it, else 0.
+fn rise(before: u8, x: u8) -> u8
+    ensures { λ r. ⌜ r ≡ min 1 (x - before) ⌝ }
+{
+    if before < x { 1 } else { 0 }
+}
+
+// The number of a cell that is higher than the one before it, else 0.
+fn rise_at(before: u8, x: u8, cell: u8) -> u8
+    ensures { λ r. ⌜ r ≡ pick (decLt before x) cell 0 ⌝ }
+{
+    if before < x { cell } else { 0 }
+}
+
+// 1 for a cell that is neither at 0 nor at the top level, else 0.
+fn middle(x: u8, top: u8) -> u8
+    ensures { λ r. ⌜ r ≡ min 1 (min x (top - x)) ⌝ }
+{
+    if x == 0 {
+        return 0;
+    }
+    if x < top { 1 } else { 0 }
+}
+
+// The greater of two cells.
+fn later(a: u8, b: u8) -> u8
+    ensures { λ r. ⌜ r ≡ max a b ⌝ }
+{
+    if a < b { b } else { a }
+}
+
+// A block's shape; before cell 0 comes the last. No cell ends the loop early, so that many cells are looked at together.
+fn shape_of(b: &[u8], top: u8) -> Shape
+    requires { ⌜ (1 ≤ length (now b)) × (length (now b) ≤ 64) ⌝ }
+    ensures { λ r. ⌜ r ≡ shapeOf top (now (b .entry)) ⌝ }
+{
+    let mut rises: u8 = 0;
+    let mut start: u8 = 0;
+    let mut middles: u8 = 0;
     let mut before = b[b.len() - 1];
     let mut i: usize = 0;
     while i < b.len() {
         let x = b[i];
-        if before < x {
-            return Start::At(i);
-        }
+        rises += rise(before, x);
+        start = later(start, rise_at(before, x, i as u8));
+        middles += middle(x, top);
         before = x;
         i += 1;
     }
-    Start::Nowhere
-}
-
-// The lesser of two numbers.
-fn lesser(a: usize, b: usize) -> usize
-    ensures { λ r. ⌜ r ≡ min a b ⌝ }
-{
-    if a < b { a } else { b }
-}
-
-// Whether the cells are raised in turn, each from 0 to the top level before the next, by v levels in all.
-fn on_ramp(s: &[u8], top: u8, v: usize) -> bool
-    ensures { λ r. ⌜ r ≡ pick (same? (now (s .entry)) (ramp top v (length (now (s .entry))))) true false ⌝ }
-{
-    let mut left = v;
-    let mut i: usize = 0;
-    while i < s.len() {
-        let level = lesser(top as usize, left);
-        if s[i] as usize != level {
-            return false;
-        }
-        left -= level;
-        i += 1;
+    Shape {
+        rises,
+        start,
+        middles,
     }
-    true
-}
-
-// Whether the block is the step of weight v on the cycle from this start: cells from the start on, and then the cells before it.
-fn on_cycle(b: &[u8], top: u8, start: usize, v: usize) -> bool
-    requires { ⌜ (length (now b) ≤ 65536) × (start < length (now b)) ⌝ }
-    ensures { λ r. ⌜ r ≡ pick (same? (now (b .entry)) (cycle (length (now (b .entry))) top start v)) true false ⌝ }
-{
-    if !on_ramp(&b[start..], top, v) {
-        return false;
-    }
-    let held = lesser(v, (b.len() - start) * top as usize);
-    on_ramp(&b[..start], top, v - held)
 }
 
 // The state of a block whose levels are at most the top level.
 pub fn state_of(b: &[u8], top: u8) -> BlockState
-    requires { ⌜ (2 ≤ length (now b)) × (length (now b) ≤ 65536) × (1 ≤ top) ⌝ }
+    requires { ⌜ (2 ≤ length (now b)) × (length (now b) ≤ 64) × (1 ≤ top) ⌝ }
     requires { ⌜ Low top (now b) ⌝ }
     ensures { λ r. ⌜ asState r ≡ stateOf (length (now (b .entry))) top (now (b .entry)) ⌝ }
 {
-    let v = sum_of(b);
+    let v = weight_of(b);
     if v == 0 {
         return BlockState::Empty;
     }
     if v == b.len() * top as usize {
         return BlockState::Full;
     }
-    let Start::At(bit) = start_of(b) else {
+    let shape = shape_of(b, top);
+    if shape.rises != 1 {
         return BlockState::Broken;
-    };
-    if on_cycle(b, top, bit, v) {
-        BlockState::Active(bit, v)
-    } else {
-        BlockState::Broken
     }
+    if 1 < shape.middles {
+        return BlockState::Broken;
+    }
+    BlockState::Active(shape.start as usize, v)
 }
 
 // The next step of a block on the cycle of a bit, in a part of the sheet that begins with the block: one cell is raised.

@@ -1,0 +1,62 @@
+-- `block::weight_of` meets its contract: the total is the sum of the cells passed. Assumes nothing.
+use mathlib.Core.Path.{_≡_, _∙_}
+use Prim.Native.Nat.{_≤_, _*_, _-_}
+use native.Mathlib.Omega.{arith}
+use borrow.Author.Needs.{needs}
+use lib.ListN.{length, take}
+use lib.Seq.{take-all}
+use Rattle.block.specs.Laws.{sum-take}
+use Rattle.rules.specs.Cells.{sum}
+use Rattle.block.proofs.weight_of.Statement.{statement}
+use Rattle.block.proofs.weight_of.Tie as tie
+
+abbrev Inv-loop : tie.InvT-loop
+Inv-loop b total₀ i₀ total i = (i ≤ length b) × (total ≡ sum (take i b)) × (total ≤ 255 * i)
+
+abbrev μ-loop : tie.MeasureT-loop
+μ-loop b total₀ i₀ total i = length b - i
+
+loop-holds : tie.Need-loop-holds Inv-loop μ-loop
+loop-holds c = search needs
+
+shared-slice-read-total : tie.Need-shared-slice-read-total Inv-loop μ-loop
+shared-slice-read-total c = search needs
+
+cast-total : tie.Need-cast-total Inv-loop μ-loop
+cast-total c = omega (arith, c .shared-slice-known .given (c .before .before .loop .i))
+
+add-total : tie.Need-add-total Inv-loop μ-loop
+add-total c = omega (arith, c .shared-slice-known .given (c .before .before .loop .i))
+
+add-i : tie.Need-add-i Inv-loop μ-loop
+add-i c = search needs
+
+loop-less : tie.Need-loop-less Inv-loop μ-loop
+loop-less c = search needs
+
+loop-again : tie.Need-loop-again Inv-loop μ-loop
+loop-again c =
+    omega (arith, c .shared-slice-known .given (c .before .before .loop .i), sum-take (c .before .before .before .args .b .now) (c .before .before .loop .i) (c .before .loop-test .taken))
+
+cast-result : tie.Need-cast-result Inv-loop μ-loop
+cast-result c = search needs
+
+returns : tie.Need-returns Inv-loop μ-loop
+returns c =
+    c .before .loop .inv .1 ∙ simp (take-all (c .before .loop .i) (c .before .before .args .b .now) (c .loop-test .left))
+
+pub weight-of-spec : {M : Type 1} → statement M
+weight-of-spec =
+    tie.close
+    (tie.spec
+    Inv-loop
+    μ-loop
+    loop-holds
+    shared-slice-read-total
+    cast-total
+    add-total
+    add-i
+    loop-less
+    loop-again
+    cast-result
+    returns)
