@@ -11,10 +11,14 @@ use native.Mathlib.Omega.{arith}
 use lib.ListN.{length, getD, getD-replicate, take, drop, replicate, set}
 use lib.Seq.{append-snoc, drop-cons, getD-set-other, getD-set-same, getD-take, length-take-le, set-at, take-suc}
 use Rattle.laws.specs.Block.{Means, cycle-full, cycle-zero, length-cycle, state-means, sum-cycle}
-use Rattle.laws.specs.Cut.{block-fits, length-block, part-block, store-sum}
+use Rattle.laws.specs.Cut.{block-fits, length-block, low-block, part-block, store-sum}
 use Rattle.laws.specs.Distinct.{Below, Distinct, pigeon-absent}
 use Rattle.laws.specs.Lists.{length-tabulate, low-drop, low-take, sum-append, tabulate-more, tabulate-same}
+use Rattle.laws.specs.Live.{run-keeps}
 use Rattle.laws.specs.Stage.{absent-at}
+use Rattle.block.specs.Meaning.{RunFrom}
+use Rattle.block.specs.RunLaws.{past-full}
+use Rattle.block.specs.StateLaws.{state-empty, state-full}
 use Rattle.rules.specs.Block.{State, active, broken, cellsOf, cycle, empty, full, grown, next, stateOf}
 use Rattle.rules.specs.Cells.{Low, block, store, sum, tabulate}
 use Rattle.rules.specs.Plain.{AllOnCycle, BlocksOk, HasBit, IsEmpty, NoRepeat, OnCycle, SameBit, bitOf, carryOut, change, hasBit?, isEmpty?, plan, planFrom, read, states, valueAt, weight}
@@ -296,6 +300,40 @@ pub part-state : (k L : ℕ) (xs : List ℕ) (j : ℕ) (s : State) → j * k + k
 unfolding states
 part-state k L xs j s h e =
     sym (e ∙ ap (λ (b : List ℕ). stateOf (length b) L b) (part-block k xs j) ∙ ap (λ (n : ℕ). stateOf n L (block k xs j)) (length-block k xs j h))
+
+-- ---- runs of full and of empty blocks
+
+module _ (k L m : ℕ) (xs : List ℕ) (two : 2 ≤ k) (g : 0 < L) (fits : m * k ≤ length xs) (low : Low L xs) where
+  -- a block that weighs what a full one does is full
+  heavy-state : (y : ℕ) → y < m → sum (block k xs y) ≡ k * L → states k L xs y ≡ full
+  unfolding states
+  heavy-state y l e =
+      let n : length (block k xs y) ≡ k = length-block k xs y (block-end k m y (length xs) fits l) in
+      ap (λ (z : ℕ). stateOf z L (block k xs y)) (sym n)
+      ∙ sym (state-full L (block k xs y) (sum (block k xs y)) refl (omega arith) g (low-block L k xs y low) (e ∙ ap (λ (z : ℕ). z * L) (sym n)))
+
+  -- and one that weighs nothing is empty
+  light-state : (y : ℕ) → y < m → sum (block k xs y) ≡ 0 → states k L xs y ≡ empty
+  unfolding states
+  light-state y l e =
+      let n : length (block k xs y) ≡ k = length-block k xs y (block-end k m y (length xs) fits l) in
+      ap (λ (z : ℕ). stateOf z L (block k xs y)) (sym n)
+      ∙ sym (state-empty L (block k xs y) (sum (block k xs y)) refl (omega arith) g (low-block L k xs y low) e)
+
+  module _ {j e r : ℕ} {places weights bits : List ℕ} (h : Known k m (states k L xs) j e places weights bits) (a : j ≤ r) (b : r ≤ m) where
+    -- full blocks are passed over in runs
+    pub known-past-full : RunFrom k L xs j r → Known k m (states k L xs) r e places weights bits
+    known-past-full f =
+        run-keeps (λ y. Known k m (states k L xs) y e places weights bits) j r a
+        (λ y c d o. known-full o (heavy-state y (omega arith) (past-full k L j r xs low f y c d))) h
+
+    -- and so are empty ones past the first
+    pub known-past-empty : e < m → RunFrom k 0 xs j r → Known k m (states k L xs) r e places weights bits
+    known-past-empty l f =
+        run-keeps (λ y. Known k m (states k L xs) y e places weights bits) j r a
+        (λ y c d o. known-empty o (light-state y (omega arith) (f y c d .1 refl)) l) h
+
+-- ---- a block as a part lent on
 
 -- it has k cells
 pub part-length : (k : ℕ) (xs : List ℕ) (j : ℕ) → j * k + k ≤ length xs → length (take (j * k + k - j * k) (drop (j * k) xs)) ≡ k

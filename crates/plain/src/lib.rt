@@ -1,5 +1,6 @@
 // The m blocks of a plain sheet, or of a staged one at stage 0: one scan, and the place of a change. Assumes nothing.
 use block::BlockState;
+use block::past_run;
 ghost use mathlib.Core.Bool.{false};
 ghost use mathlib.Core.Path.{_≡_};
 ghost use Prim.Native.Nat.{_+_, _*_, _≤_, _<_};
@@ -34,7 +35,7 @@ fn refused() -> Scan
     }
 }
 
-// One pass over the blocks, left at the first broken block or at the first active block whose bit an earlier one holds.
+// One pass over the blocks, runs of full and of empty ones at a stride, left at the first broken block or at the first active block whose bit an earlier one holds.
 pub fn scan_blocks(cells: &[u8], k: usize, top: u8, m: usize) -> Scan
     requires { ⌜ (2 ≤ k) × (k ≤ 64) × (1 ≤ top) × (m * k ≤ length (now cells)) × (length (now cells) ≤ 65536) ⌝ }
     requires { ⌜ Low top (now cells) ⌝ }
@@ -45,16 +46,22 @@ pub fn scan_blocks(cells: &[u8], k: usize, top: u8, m: usize) -> Scan
     let mut weights = [0usize; 64];
     let mut seen = [0usize; 64];
     let mut n: usize = 0;
-    'each: for j in 0..m {
+    let mut next: usize = 0;
+    'each: while next < m {
+        let j = next;
         let a = j * k;
         let e = a + k;
+        next += 1;
         match block::state_of(&cells[a..e], top) {
-            BlockState::Full => continue 'each,
+            BlockState::Full => {
+                next = past_run(cells, k, m, next, top);
+                continue 'each;
+            }
             BlockState::Empty => {
-                if empty < m {
-                    continue 'each;
+                if m <= empty {
+                    empty = j;
                 }
-                empty = j;
+                next = past_run(cells, k, m, next, 0);
                 continue 'each;
             }
             BlockState::Broken => return refused(),
