@@ -1,9 +1,9 @@
 -- Laws of runs of cells at one level, and of the blocks in them, which a scan passes over. Assumes nothing.
 use mathlib.Core.List.{List, [], _∷_}
 use mathlib.Core.Path.{_≡_, _∙_, ap, subst, sym}
-use Prim.Native.Nat.{ℕ, zero, suc, _+_, _-_, _*_, _/_, _≤_, _<_}
+use Prim.Native.Nat.{ℕ, zero, suc, _+_, _-_, _*_, _≤_, _<_}
 use native.Mathlib.Decide.{decLt}
-use native.Mathlib.Nat.{add-mul, div-le-self, div-mul-le-self, le-div-iff-mul-le, mul-le-mul-right}
+use native.Mathlib.Nat.{add-mul, mul-le-mul-right}
 use native.Mathlib.Omega.{arith}
 use lib.ListN.{drop, length, length-drop, length-take, take}
 use lib.Seq.{length-take-le}
@@ -49,10 +49,6 @@ part-nothing : (a n : ℕ) (s : List ℕ) → Low 0 s → sum (take n (drop a s)
 part-nothing a n s h = omega (arith, sum-low 0 (take n (drop a s)) (low-take 0 n (drop a s) (low-drop 0 a s h)))
 
 -- ---- the blocks of a run
-
--- how many blocks of len cells a run of 64 cells has
-pub run-blocks : (len : ℕ) → 1 ≤ len → len ≤ 64 → (1 ≤ 64 / len) × (64 / len ≤ 64) × (64 / len * len ≤ 64)
-run-blocks len h l = (le-div-iff-mul-le {k = len} {x = 1} {y = 64} h .1 (omega arith), div-le-self 64 len, div-mul-le-self 64 len)
 
 -- no block is passed over yet
 pub past-none : (len v from : ℕ) (cells : List ℕ) → RunFrom len v cells from from

@@ -224,15 +224,30 @@ fn run_at(b: &[u8], level: u8) -> bool
     level <= least(b)
 }
 
-// Past whole runs of 64 cells at a level: the number of the block, from a number on, to look at next. How far it goes is a matter of speed alone.
-pub fn past_run(cells: &[u8], len: usize, count: usize, from: usize, level: u8) -> usize
-    requires { ⌜ (1 ≤ len) × (count * len ≤ length (now cells)) × (length (now cells) ≤ 65536) × (from ≤ count) ⌝ }
+// How many whole blocks of `len` cells a run of 64 cells has.
+pub fn run_blocks(len: usize) -> usize
+    requires { ⌜ 1 ≤ len ⌝ }
+    ensures { λ r. ⌜ (r * len ≤ 64) × (r ≤ 64) ⌝ }
+{
+    64 / len
+}
+
+// Past whole runs of 64 cells at a level, `step` blocks at a time: the number of the block, from a number on, to look at next. How far it goes is a matter of speed alone.
+pub fn past_run(
+    cells: &[u8],
+    len: usize,
+    step: usize,
+    count: usize,
+    from: usize,
+    level: u8,
+) -> usize
+    requires { ⌜ (1 ≤ len) × (step * len ≤ 64) × (step ≤ 64) ⌝ }
+    requires { ⌜ (count * len ≤ length (now cells)) × (length (now cells) ≤ 65536) × (from ≤ count) ⌝ }
     ensures { λ r. ⌜ (from ≤ r) × (r ≤ count) × RunFrom len level (now (cells .entry)) from r ⌝ }
 {
-    if 64 < len {
+    if step == 0 {
         return from;
     }
-    let step = 64 / len;
     let mut j = from;
     while j + step <= count {
         let a = j * len;

@@ -12,6 +12,7 @@ ghost use Rattle.rules.specs.Stage.{recorded, index, closed};
 ghost use Rattle.rules.specs.Batches.{entryCells};
 ghost use Rattle.moving.specs.Meaning.{Apart, Roomy, parityCells, recordedAt, liveAt, moved};
 use block::past_run;
+use block::run_blocks;
 use block::sum_of;
 use staged::fill;
 use staged::raise_one;
@@ -114,6 +115,7 @@ pub fn move_to(
     ensures { λ _. ⌜ now (sheet .exit) ≡ moved at len count w k top (take k values) (now (sheet .entry)) ⌝ }
     ensures { λ r. ⌜ r + sum (now (sheet .entry)) ≡ sum (now (sheet .exit)) ⌝ }
 {
+    let step = run_blocks(len);
     let full = len * top as usize;
     let mut raised: usize = 0;
     let mut live: usize = 0;
@@ -123,7 +125,7 @@ pub fn move_to(
         let e = a + len;
         j += 1;
         if sum_of(&sheet[a..e]) == full {
-            j = past_run(sheet, len, count, j, top);
+            j = past_run(sheet, len, step, count, j, top);
             continue;
         }
         raised += record_live(sheet, a, len, at + live * w, w, k, top, live, values);

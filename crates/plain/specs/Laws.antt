@@ -23,7 +23,7 @@ use Rattle.rules.specs.Block.{State, active, broken, cellsOf, cycle, empty, ful
 use Rattle.rules.specs.Cells.{Low, block, store, sum, tabulate}
 use Rattle.rules.specs.Plain.{AllOnCycle, BlocksOk, HasBit, IsEmpty, NoRepeat, OnCycle, SameBit, bitOf, carryOut, change, hasBit?, isEmpty?, plan, planFrom, read, states, valueAt, weight}
 use Rattle.rules.specs.Search.{at, done, first, noPlace, nowhere, pick}
-use Rattle.rules.specs.SearchLaws.{First, first-eq, hit, miss, pick-no, pick-yes}
+use Rattle.rules.specs.SearchLaws.{First, first-eq, hit, miss, pick-elim, pick-no, pick-yes}
 use Rattle.rules.specs.Stage.{Absent}
 use Rattle.plain.specs.Meaning.{Free, Held, Place, PlaceOf, Scanned, erase, free, held, none, parities, placeIn, some, step}
 use Rattle.plain.specs.declared.Scan.{Scan}
@@ -54,6 +54,11 @@ place-new {j = j} (none b) q n p = some j (le-refl (suc j)) p b
 held-skip : {st : ℕ → State} {i j m p v : ℕ} → ¬ (HasBit i (st j)) → Held st i j m p v → Held st i (suc j) m p v
 held-skip n (held x v l e b) = held x v (omega arith) e b
 held-skip n (free b) = free (all-more b n)
+
+-- a bit with no place is in no block
+held-free : {st : ℕ → State} {i j m p v : ℕ} → Held st i j m p v → ¬ (p < m) → j ≤ m → Free st j i
+held-free (held x v l e b) n h = absurd (n (omega arith))
+held-free (free b) n h = b
 
 -- ---- a list with one more number
 
@@ -178,6 +183,13 @@ module _ {k m : ℕ} {st : ℕ → State} {j e : ℕ} {places weights bits : Lis
   pub known-first : st j ≡ empty → ¬ (e < m) → j < m → Known k m st (j + 1) j places weights bits
   known-first q n l = subst (λ (x : ℕ). Known k m st x j places weights bits) (sym (add-one j))
       (known-idle j (subst OnCycle (sym q) tt) (λ i h. subst (HasBit i) q h) (place-new (g .first) l n (subst IsEmpty (sym q) tt)))
+
+  -- a bit that has no block yet is none of those seen, so the search for it begins past them all
+  pub search-begun : (b n x : ℕ) (seen : List ℕ) → b < k → j ≤ m → bits ≡ take n seen → x ≡ pick (decLt (getD places b 0) m) 0 n → (x ≤ n) × Absent b (take x seen)
+  search-begun b n x seen l h t e =
+      subst (λ (y : ℕ). (y ≤ n) × Absent b (take y seen)) (sym e)
+      (pick-elim (λ y. (y ≤ n) × Absent b (take y seen)) (decLt (getD places b 0) m) 0 n
+      (λ p. (omega arith, tt)) (λ p. (omega arith, subst (Absent b) t (g .seen .free b (held-free (g .held b l) p h)))))
 
   module _ (b v : ℕ) (q : st j ≡ active b v) where
     -- each bit's block and weight, with block j

@@ -1,12 +1,15 @@
 // The m blocks of a plain sheet, or of a staged one at stage 0: one scan, and the place of a change. Assumes nothing.
 use block::BlockState;
 use block::past_run;
+use block::run_blocks;
 ghost use mathlib.Core.Bool.{false};
 ghost use mathlib.Core.Path.{_≡_};
 ghost use Prim.Native.Nat.{_+_, _*_, _≤_, _<_};
+ghost use native.Mathlib.Decide.{decLt};
 ghost use mathlib.Core.List.{_++_};
 ghost use lib.ListN.{length, drop};
 ghost use Rattle.rules.specs.Cells.{Low, sum};
+ghost use Rattle.rules.specs.Search.{pick};
 ghost use Rattle.plain.specs.Meaning.{Scanned, placeIn, parities};
 
 // What a scan finds: whether the blocks keep the rules; the first empty block, or m; each bit's block, or m, and its weight.
@@ -35,12 +38,20 @@ fn refused() -> Scan
     }
 }
 
+// Where the search among the n active blocks for an earlier one of a bit begins: past them all if the bit has no block yet.
+fn search_from(place: usize, m: usize, n: usize) -> usize
+    ensures { λ r. ⌜ r ≡ pick (decLt place m) 0 n ⌝ }
+{
+    if place < m { 0 } else { n }
+}
+
 // One pass over the blocks, runs of full and of empty ones at a stride, left at the first broken block or at the first active block whose bit an earlier one holds.
 pub fn scan_blocks(cells: &[u8], k: usize, top: u8, m: usize) -> Scan
     requires { ⌜ (2 ≤ k) × (k ≤ 64) × (1 ≤ top) × (m * k ≤ length (now cells)) × (length (now cells) ≤ 65536) ⌝ }
     requires { ⌜ Low top (now cells) ⌝ }
     ensures { λ r. ⌜ Scanned k top m (now (cells .entry)) r ⌝ }
 {
+    let step = run_blocks(k);
     let mut empty = m;
     let mut places = [m; 64];
     let mut weights = [0usize; 64];
@@ -54,19 +65,19 @@ pub fn scan_blocks(cells: &[u8], k: usize, top: u8, m: usize) -> Scan
         next += 1;
         match block::state_of(&cells[a..e], top) {
             BlockState::Full => {
-                next = past_run(cells, k, m, next, top);
+                next = past_run(cells, k, step, m, next, top);
                 continue 'each;
             }
             BlockState::Empty => {
                 if m <= empty {
                     empty = j;
                 }
-                next = past_run(cells, k, m, next, 0);
+                next = past_run(cells, k, step, m, next, 0);
                 continue 'each;
             }
             BlockState::Broken => return refused(),
             BlockState::Active(bit, weight) => {
-                let mut x: usize = 0;
+                let mut x = search_from(places[bit], m, n);
                 'earlier: while x < n {
                     if seen[x] == bit {
                         return refused();

@@ -1,5 +1,6 @@
 // One stage from 1 up: its check, every bit's block and the place of a change, in one pass over its parity blocks. Assumes nothing.
 use block::past_run;
+use block::run_blocks;
 use staged::Index;
 ghost use mathlib.Core.Path.{_≡_};
 ghost use Prim.Native.Nat.{_+_, _-_, _*_, _≤_, _<_};
@@ -123,6 +124,7 @@ pub fn scan_stage(
     requires { ⌜ StageFits len count w k top (now cells) (now batch) ⌝ }
     ensures { λ r. ⌜ StageScanned k (len * top) (chop len count (now (cells .entry))) (entries top w (2 * (k - 1)) (now (batch .entry))) r ⌝ }
 {
+    let step = run_blocks(len);
     let mut s = begin(count);
     let mut next: usize = 0;
     let mut at: usize = 0;
@@ -131,7 +133,7 @@ pub fn scan_stage(
         let v = weight_of(cells, len, j);
         at += 1;
         if v == len * top as usize {
-            at = past_run(cells, len, count, at, top);
+            at = past_run(cells, len, step, count, at, top);
             continue;
         }
         let Live::At(slot, u) = next_index(batch, w, 2 * (k - 1), top, next) else {

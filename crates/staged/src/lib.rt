@@ -9,6 +9,7 @@ ghost use Rattle.rules.specs.Batches.{digits, entryOf};
 ghost use Rattle.staged.specs.Meaning.{asEntry, asFound, stageLeft, asLater, laterFrom};
 use block::all_zero;
 use block::past_run;
+use block::run_blocks;
 use block::sum_of;
 
 // What an index block says: its number, or that it is full.
@@ -92,6 +93,7 @@ pub fn count_live(cells: &[u8], len: usize, count: usize, top: u8) -> usize
     requires { ⌜ (count * len ≤ length (now cells)) × (1 ≤ len) × (len ≤ 65536) × (length (now cells) ≤ 65536) × Low top (now cells) ⌝ }
     ensures { λ r. ⌜ r ≡ length (liveWeights (len * top) (chop len count (now (cells .entry)))) ⌝ }
 {
+    let step = run_blocks(len);
     let full = len * top as usize;
     let mut live: usize = 0;
     let mut j: usize = 0;
@@ -100,7 +102,7 @@ pub fn count_live(cells: &[u8], len: usize, count: usize, top: u8) -> usize
         let e = a + len;
         j += 1;
         if sum_of(&cells[a..e]) == full {
-            j = past_run(cells, len, count, j, top);
+            j = past_run(cells, len, step, count, j, top);
             continue;
         }
         live += 1;

@@ -3,7 +3,7 @@ use mathlib.Core.Path.{_≡_}
 use Prim.Native.Nat.{_*_, _+_, _-_, _/_, _≤_}
 use native.Mathlib.Nat.{le-mul-of-pos-right, mul-le-mul-right}
 use native.Mathlib.Omega.{arith}
-use Rattle.block.specs.RunLaws.{past-more, past-none, run-blocks}
+use Rattle.block.specs.RunLaws.{past-more, past-none}
 use Rattle.block.specs.Meaning.{RunAt, RunFrom}
 use borrow.Author.Needs.{needs}
 use borrow.Author.Tests.{not-false}
@@ -12,21 +12,18 @@ use Rattle.block.proofs.past_run.Statement.{statement}
 use Rattle.block.proofs.past_run.Tie as tie
 
 abbrev Inv-loop : tie.InvT-loop
-Inv-loop cells len count from level step j₀ j = (from ≤ j) × (j ≤ count) × RunFrom len level cells from j × ((1 ≤ step) × (step ≤ 64) × (step * len ≤ 64))
+Inv-loop cells len step count from level j₀ j = (from ≤ j) × (j ≤ count) × RunFrom len level cells from j
 
 abbrev μ-loop : tie.MeasureT-loop
-μ-loop cells len count from level step j₀ j = count - j
+μ-loop cells len step count from level j₀ j = count - j
 
 returns : tie.Need-returns Inv-loop μ-loop
 returns c = search needs
 
-div-step : tie.Need-div-step Inv-loop μ-loop
-div-step c = search needs
-
 loop-holds : tie.Need-loop-holds Inv-loop μ-loop
 loop-holds c =
     let a = c .before .before .args in
-    (omega arith, omega arith, past-none (a .len) (a .level) (a .from) (a .cells .now), run-blocks (a .len) (omega arith) (omega arith))
+    (omega arith, omega arith, past-none (a .len) (a .level) (a .from) (a .cells .now))
 
 add-loop : tie.Need-add-loop Inv-loop μ-loop
 add-loop c =
@@ -77,8 +74,7 @@ loop-again c =
     let g : RunAt (a .level) (take 64 (drop (l .loop .j * a .len) (a .cells .now))) = rw q at (c .before .run-at .ensures (not-false _ (c .if3 .left))) in (
       omega arith,
       omega arith,
-      past-more (a .len) (a .level) (64 / a .len) 64 (a .from) (l .loop .j) (a .cells .now) (l .loop .inv .3 .2) (omega arith) g (l .loop .inv .2),
-      l .loop .inv .3,
+      past-more (a .len) (a .level) (a .step) 64 (a .from) (l .loop .j) (a .cells .now) (omega arith) (omega arith) g (l .loop .inv .2),
     )
 
 returns-4 : tie.Need-returns-4 Inv-loop μ-loop
@@ -91,7 +87,6 @@ past-run-spec =
     Inv-loop
     μ-loop
     returns
-    div-step
     loop-holds
     add-loop
     mul-a

@@ -15,26 +15,29 @@ use Rattle.moving.proofs.move_to.Statement.{statement}
 use Rattle.moving.proofs.move_to.Tie as tie
 
 abbrev Inv-loop : tie.InvT-loop
-Inv-loop sheet₀ at len count w k top values full raised₀ live₀ j₀ sheet raised live j = Going at len count w top (take k values) sheet₀ sheet raised live j
+Inv-loop sheet₀ at len count w k top values step full raised₀ live₀ j₀ sheet raised live j = Going at len count w top (take k values) sheet₀ sheet raised live j
 
 abbrev μ-loop : tie.MeasureT-loop
-μ-loop sheet₀ at len count w k top values full raised₀ live₀ j₀ sheet raised live j = count - j
+μ-loop sheet₀ at len count w k top values step full raised₀ live₀ j₀ sheet raised live j = count - j
+
+run-blocks-requires : tie.Need-run-blocks-requires Inv-loop μ-loop
+run-blocks-requires c κs = search needs
 
 mul-full : tie.Need-mul-full Inv-loop μ-loop
-mul-full c = omega (arith, full-small (c .before .args .len) (c .before .args .top) (c .before .pre .small) (omega arith))
+mul-full c = omega (arith, full-small (c .before .before .args .len) (c .before .before .args .top) (c .before .before .pre .small) (omega arith))
 
 loop-holds : tie.Need-loop-holds Inv-loop μ-loop
 loop-holds c =
-    let a = c .before .args in
+    let a = c .before .before .args in
     going-first (a .at) (a .len) (a .count) (a .w) (a .top) (take (a .k) (a .values)) (a .sheet .now)
 
 -- in a turn the block lies in the sheet
-inside : (c : tie.In-loop Inv-loop μ-loop) → c .before .loop .j * c .before .before .before .args .len + c .before .before .before .args .len ≤ length (c .before .loop .sheet)
-inside c = block-inside (c .before .before .before .pre) (c .before .loop .inv) (c .loop-test .taken)
+inside : (c : tie.In-loop Inv-loop μ-loop) → c .before .loop .j * c .before .before .before .before .args .len + c .before .before .before .before .args .len ≤ length (c .before .loop .sheet)
+inside c = block-inside (c .before .before .before .before .pre) (c .before .loop .inv) (c .loop-test .taken)
 
 -- and the sheet is not too long
 long : (c : tie.In-loop Inv-loop μ-loop) → length (c .before .loop .sheet) ≤ 65536
-long c = omega (arith, same-long (c .before .before .before .pre) (c .before .loop .inv))
+long c = omega (arith, same-long (c .before .before .before .before .pre) (c .before .loop .inv))
 
 mul-a : tie.Need-mul-a Inv-loop μ-loop
 mul-a c = omega (arith, inside c, long c)
@@ -57,15 +60,15 @@ part-sum-of-end c = omega (arith, inside (c .before))
 sum-of-requires : tie.Need-sum-of-requires Inv-loop μ-loop
 sum-of-requires c κs =
     let o = c .before .before in
-    let a = o .before .before .before .args in
+    let a = o .before .before .before .before .args in
     simp (length-take, length-drop) (omega (arith, inside o, long o))
 
 past-run-requires : tie.Need-past-run-requires Inv-loop μ-loop
 past-run-requires c κs =
     let o = c .before .before .before .before .before in
-    let g = o .before .before .before .pre in
+    let g = o .before .before .before .before .pre in
     let e = same-long g (o .before .loop .inv) in
-    (g .long, omega (arith, g .ordered, g .inside), omega (arith, g .short), omega arith)
+    ((g .long, omega arith, omega arith), (omega (arith, g .ordered, g .inside), omega (arith, g .short), omega arith))
 
 loop-less : tie.Need-loop-less Inv-loop μ-loop
 loop-less c = search needs
@@ -74,31 +77,31 @@ loop-again : tie.Need-loop-again Inv-loop μ-loop
 loop-again c =
     let o = c .before .before .before .before .before .before in
     let l = o .before .loop in
-    let a = o .before .before .before .args in
+    let a = o .before .before .before .before .args in
     let q : l .j * a .len + a .len - l .j * a .len ≡ a .len = omega arith in
-    let h = going-full (o .before .before .before .pre) (l .inv) (o .loop-test .taken) (rw q at (sym (c .before .before .before .sum-of .ensures) ∙ c .before .before .if1 .taken)) in
-    going-past (o .before .before .before .pre) h (c .past-run .ensures .0) (c .past-run .ensures .1) (c .past-run .ensures .2)
+    let h = going-full (o .before .before .before .before .pre) (l .inv) (o .loop-test .taken) (rw q at (sym (c .before .before .before .sum-of .ensures) ∙ c .before .before .if1 .taken)) in
+    going-past (o .before .before .before .before .pre) h (c .past-run .ensures .0) (c .past-run .ensures .1) (c .past-run .ensures .2)
 
 mul-record-live : tie.Need-mul-record-live Inv-loop μ-loop
-mul-record-live c = omega (arith, index-room (c .before .before .before .before .before .before .before .before .pre) (c .before .before .before .before .before .before .loop .inv))
+mul-record-live c = omega (arith, index-room (c .before .before .before .before .before .before .before .before .before .pre) (c .before .before .before .before .before .before .loop .inv))
 
 add-record-live : tie.Need-add-record-live Inv-loop μ-loop
-add-record-live c = omega (arith, index-room (c .before .before .before .before .before .before .before .before .pre) (c .before .before .before .before .before .before .loop .inv))
+add-record-live c = omega (arith, index-room (c .before .before .before .before .before .before .before .before .before .pre) (c .before .before .before .before .before .before .loop .inv))
 
 -- and the block is live
 alive : (c : tie.After-record-live-arg Inv-loop μ-loop)
-    → sum (part (c .before .before .before .before .before .before .loop .j * c .before .before .before .before .before .before .before .before .args .len) (c .before .before .before .before .before .before .before .before .args .len) (c .before .before .before .before .before .before .loop .sheet))
-    ≢ c .before .before .before .before .before .before .before .before .args .len * c .before .before .before .before .before .before .before .before .args .top
+    → sum (part (c .before .before .before .before .before .before .loop .j * c .before .before .before .before .before .before .before .before .before .args .len) (c .before .before .before .before .before .before .before .before .before .args .len) (c .before .before .before .before .before .before .loop .sheet))
+    ≢ c .before .before .before .before .before .before .before .before .before .args .len * c .before .before .before .before .before .before .before .before .before .args .top
 alive c e =
     let l = c .before .before .before .before .before .before .loop in
-    let a = c .before .before .before .before .before .before .before .before .args in
+    let a = c .before .before .before .before .before .before .before .before .before .args in
     let q : l .j * a .len + a .len - l .j * a .len ≡ a .len = omega arith in
     c .before .if1 .left ((rw q at (c .before .before .sum-of .ensures)) ∙ e)
 
 record-live-requires : tie.Need-record-live-requires Inv-loop μ-loop
 record-live-requires c κs =
     let o = c .before .before .before .before .before in
-    let g = o .before .before .before .pre in
+    let g = o .before .before .before .before .pre in
     let i = o .before .loop .inv in
     (live-asks g i (o .loop-test .taken) (alive c), (g .few, omega (arith, g .wide), index-blank g i (o .loop-test .taken) (alive c)))
 
@@ -106,26 +109,26 @@ loop-again-2 : tie.Need-loop-again-2 Inv-loop μ-loop
 loop-again-2 c =
     let o = c .before .before .before .before .before .before .before .before in
     let r = c .before .before .record-live in
-    going-live (o .before .before .before .pre) (o .before .loop .inv) (o .loop-test .taken) (alive (c .before .before .before)) (r .last .0) (r .result) (r .ensures .0) (r .ensures .1)
+    going-live (o .before .before .before .before .pre) (o .before .loop .inv) (o .loop-test .taken) (alive (c .before .before .before)) (r .last .0) (r .result) (r .ensures .0) (r .ensures .1)
 
 add-raised : tie.Need-add-raised Inv-loop μ-loop
 add-raised c =
-    let g = c .before .before .before .before .before .before .before .before .before .before .before .pre in
+    let g = c .before .before .before .before .before .before .before .before .before .before .before .before .pre in
     omega (arith, loop-again-2 c .each, met-few g (loop-again-2 c), g .few)
 
 add-live : tie.Need-add-live Inv-loop μ-loop
 add-live c =
-    let g = c .before .before .before .before .before .before .before .before .before .before .before .pre in
+    let g = c .before .before .before .before .before .before .before .before .before .before .before .before .pre in
     omega (arith, met-few g (loop-again-2 c), g .few)
 
 loop-less-2 : tie.Need-loop-less-2 Inv-loop μ-loop
 loop-less-2 c = search needs
 
 mul-rest : tie.Need-mul-rest Inv-loop μ-loop
-mul-rest c = omega (arith, index-room (c .before .before .before .pre) (c .before .loop .inv))
+mul-rest c = omega (arith, index-room (c .before .before .before .before .pre) (c .before .loop .inv))
 
 add-rest : tie.Need-add-rest Inv-loop μ-loop
-add-rest c = omega (arith, index-room (c .before .before .before .pre) (c .before .loop .inv))
+add-rest c = omega (arith, index-room (c .before .before .before .before .pre) (c .before .loop .inv))
 
 sub-end : tie.Need-sub-end Inv-loop μ-loop
 sub-end c = search needs
@@ -134,33 +137,33 @@ mul-end : tie.Need-mul-end Inv-loop μ-loop
 mul-end c = omega arith
 
 mul-end-2 : tie.Need-mul-end-2 Inv-loop μ-loop
-mul-end-2 c = omega (arith, c .before .before .before .pre .inside)
+mul-end-2 c = omega (arith, c .before .before .before .before .pre .inside)
 
 add-end : tie.Need-add-end Inv-loop μ-loop
-add-end c = omega (arith, c .before .before .before .pre .inside)
+add-end c = omega (arith, c .before .before .before .before .pre .inside)
 
 fill-rest-requires : tie.Need-fill-rest-requires Inv-loop μ-loop
 fill-rest-requires c κs =
-    let g = c .before .before .before .before .pre in
+    let g = c .before .before .before .before .before .pre in
     let i = c .before .before .loop .inv in
     (omega arith, omega (arith, rest-room g i), omega (arith, same-long g i), omega (arith, same-long g i))
 
 add-result : tie.Need-add-result Inv-loop μ-loop
 add-result c =
     let o = c .before .before .before .before .before in
-    let g = o .before .before .pre in
+    let g = o .before .before .before .pre in
     omega (arith, g .few, o .loop .inv .each, met-few g (o .loop .inv), c .before .before .fill-rest .ensures .1 .1)
 
 same-length : tie.Need-same-length Inv-loop μ-loop
 same-length c =
     let o = c .before .before .before .before .before in
-    omega (arith, same-long (o .before .before .pre) (o .loop .inv))
+    omega (arith, same-long (o .before .before .before .pre) (o .loop .inv))
 
 returns : tie.Need-returns Inv-loop μ-loop
 returns c =
     let o = c .before .before .before .before .before in
-    let a = o .before .before .args in
-    let g = o .before .before .pre in
+    let a = o .before .before .before .args in
+    let g = o .before .before .before .pre in
     let i = all-met (o .loop .inv) (c .before .before .before .before .loop-test .left) in
     let r = c .before .before .fill-rest in
     let n : a .at + 2 * (a .k - 1) * a .w - (a .at + o .loop .live * a .w) + o .loop .live * a .w ≡ 2 * (a .k - 1) * a .w = omega (arith, rest-room g i) in
@@ -175,6 +178,7 @@ move-to-spec =
     (tie.spec
     Inv-loop
     μ-loop
+    run-blocks-requires
     mul-full
     loop-holds
     mul-a

@@ -13,20 +13,23 @@ use Rattle.stage.proofs.scan_stage.Statement.{statement}
 use Rattle.stage.proofs.scan_stage.Tie as tie
 
 abbrev Inv-loop : tie.InvT-loop
-Inv-loop cells batch len count w k top s₀ next₀ at₀ s next at = ScanAt k (len * top) count len cells top w batch (2 * (k - 1)) at next s
+Inv-loop cells batch len count w k top step s₀ next₀ at₀ s next at = ScanAt k (len * top) count len cells top w batch (2 * (k - 1)) at next s
 
 abbrev μ-loop : tie.MeasureT-loop
-μ-loop cells batch len count w k top s₀ next₀ at₀ s next at = count - at
+μ-loop cells batch len count w k top step s₀ next₀ at₀ s next at = count - at
+
+run-blocks-requires : tie.Need-run-blocks-requires Inv-loop μ-loop
+run-blocks-requires c κs = search needs
 
 begin-requires : tie.Need-begin-requires Inv-loop μ-loop
 begin-requires c κs = search needs
 
 loop-holds : tie.Need-loop-holds Inv-loop μ-loop
-loop-holds c = rw (c .begin .ensures) (scan-begun (c .before .before .before .pre .few))
+loop-holds c = rw (c .begin .ensures) (scan-begun (c .before .before .before .before .pre .few))
 
 weight-of-requires : tie.Need-weight-of-requires Inv-loop μ-loop
 weight-of-requires c κs =
-    let a = c .before .before .before .before .before .args in
+    let a = c .before .before .before .before .before .before .args in
     omega (arith, block-fits (a .len) (c .before .loop .at) (a .count) (c .loop-test .taken))
 
 add-at : tie.Need-add-at Inv-loop μ-loop
@@ -34,7 +37,7 @@ add-at c = search needs
 
 mul-if1 : tie.Need-mul-if1 Inv-loop μ-loop
 mul-if1 c =
-    let a = c .before .before .before .before .before .before .args in
+    let a = c .before .before .before .before .before .before .before .args in
     let h : a .len ≤ 65536 = omega (arith, block-fits (a .len) (c .before .before .loop .at) (a .count) (c .before .loop-test .taken)) in
     let g : a .top ≤ 255 = omega arith in
     omega (arith, mul-le-mul h g)
@@ -50,7 +53,7 @@ loop-again c =
     let v = c .before .before in
     let l = v .before .before in
     let h = turn-full (l .loop .inv) (v .before .loop-test .taken) (v .weight-of .ensures) (c .before .if1 .taken) in
-    turn-past (l .before .before .before .before .pre .low) h (c .past-run .ensures .0) (c .past-run .ensures .1) (c .past-run .ensures .2)
+    turn-past (l .before .before .before .before .before .pre .low) h (c .past-run .ensures .0) (c .past-run .ensures .1) (c .past-run .ensures .2)
 
 sub-next-index : tie.Need-sub-next-index Inv-loop μ-loop
 sub-next-index c = search needs
@@ -81,7 +84,7 @@ turn : (c : tie.After-known-told Inv-loop μ-loop) →
     let f = c .before .before .before in
     let v = f .before .before in
     let l = v .before .before in
-    let a = l .before .before .before .before .args in
+    let a = l .before .before .before .before .before .args in
     Turn (a .k) (a .len * a .top) (a .count) (a .len) (a .cells .now) (a .top) (a .w) (a .batch .now) (2 * (a .k - 1)) (l .loop .at) (c .before .slot .given .0 .0) (c .before .slot .given .0 .1 .0) (v .weight-of .result) (l .loop .s)
 turn c =
     let f = c .before .before .before in
@@ -182,6 +185,7 @@ scan-stage-spec =
     (tie.spec
     Inv-loop
     μ-loop
+    run-blocks-requires
     begin-requires
     loop-holds
     weight-of-requires

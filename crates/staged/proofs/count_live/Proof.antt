@@ -18,14 +18,17 @@ use Rattle.block.proofs.sum_of.Reads as sum-of-reads
 use Rattle.block.proofs.past_run.Reads as past-run-reads
 
 abbrev Inv-loop : tie.InvT-loop
-Inv-loop cells len count top full live₀ j₀ live j = (j ≤ count) × (live ≡ length (liveWeights (len * top) (chop len j cells))) × (live ≤ j)
+Inv-loop cells len count top step full live₀ j₀ live j = (j ≤ count) × (live ≡ length (liveWeights (len * top) (chop len j cells))) × (live ≤ j)
 
 abbrev μ-loop : tie.MeasureT-loop
-μ-loop cells len count top full live₀ j₀ live j = count - j
+μ-loop cells len count top step full live₀ j₀ live j = count - j
+
+run-blocks-requires : tie.Need-run-blocks-requires Inv-loop μ-loop
+run-blocks-requires c κs = search needs
 
 mul-full : tie.Need-mul-full Inv-loop μ-loop
 mul-full c =
-    let a = c .before .args in
+    let a = c .before .before .args in
     let g : a .top ≤ 255 = omega arith in
     omega (arith, mul-le-mul {n₁ = a .len} {n₂ = 65536} (omega arith) g)
 
@@ -33,16 +36,16 @@ loop-holds : tie.Need-loop-holds Inv-loop μ-loop
 loop-holds c = search needs
 
 -- in a turn the block lies within the cells
-inside : (c : tie.In-loop Inv-loop μ-loop) → c .before .loop .j * c .before .before .before .args .len + c .before .before .before .args .len ≤ length (c .before .before .before .args .cells .now)
+inside : (c : tie.In-loop Inv-loop μ-loop) → c .before .loop .j * c .before .before .before .before .args .len + c .before .before .before .before .args .len ≤ length (c .before .before .before .before .args .cells .now)
 inside c =
-    let a = c .before .before .before .args in
+    let a = c .before .before .before .before .args in
     omega (arith, block-fits (a .len) (c .before .loop .j) (a .count) (c .loop-test .taken))
 
 -- and its weight is the block's
-weighs : (c : tie.In-loop Inv-loop μ-loop) (r : ℕ) → r ≡ sum (take (c .before .loop .j * c .before .before .before .args .len + c .before .before .before .args .len - c .before .loop .j * c .before .before .before .args .len) (drop (c .before .loop .j * c .before .before .before .args .len) (c .before .before .before .args .cells .now)))
-    → sum (block (c .before .before .before .args .len) (c .before .before .before .args .cells .now) (c .before .loop .j)) ≡ r
+weighs : (c : tie.In-loop Inv-loop μ-loop) (r : ℕ) → r ≡ sum (take (c .before .loop .j * c .before .before .before .before .args .len + c .before .before .before .before .args .len - c .before .loop .j * c .before .before .before .before .args .len) (drop (c .before .loop .j * c .before .before .before .before .args .len) (c .before .before .before .before .args .cells .now)))
+    → sum (block (c .before .before .before .before .args .len) (c .before .before .before .before .args .cells .now) (c .before .loop .j)) ≡ r
 weighs c r e =
-    let a = c .before .before .before .args in
+    let a = c .before .before .before .before .args in
     sym (e ∙ ap sum (part-block (a .len) (a .cells .now) (c .before .loop .j)))
 
 mul-a : tie.Need-mul-a Inv-loop μ-loop
@@ -75,10 +78,10 @@ loop-less c = search needs
 loop-again : tie.Need-loop-again Inv-loop μ-loop
 loop-again c =
     let o = c .before .before .before .before in
-    let a = o .before .before .before .args in
+    let a = o .before .before .before .before .args in
     let j = o .before .loop .j in
     let e = count-full (a .len * a .top) (a .len) j (a .cells .now) (weighs o _ (c .before .before .sum-of .ensures) ∙ c .before .if1 .taken) in
-    let f = count-past (a .len) (a .top) (j + 1) (c .past-run .result) (a .cells .now) (o .before .before .before .pre .4) (c .past-run .ensures .0) (c .past-run .ensures .2) in
+    let f = count-past (a .len) (a .top) (j + 1) (c .past-run .result) (a .cells .now) (o .before .before .before .before .pre .4) (c .past-run .ensures .0) (c .past-run .ensures .2) in
     (c .past-run .ensures .1, omega arith, omega arith)
 
 add-live : tie.Need-add-live Inv-loop μ-loop
@@ -90,14 +93,14 @@ loop-less-2 c = search needs
 loop-again-2 : tie.Need-loop-again-2 Inv-loop μ-loop
 loop-again-2 c =
     let o = c .before .before .before in
-    let a = o .before .before .before .args in
+    let a = o .before .before .before .before .args in
     let e = count-more (a .len * a .top) (a .len) (o .before .loop .j) (a .cells .now) (λ q. c .if1 .left (sym (weighs o _ (c .before .sum-of .ensures)) ∙ q)) in
     (omega arith, omega arith, omega arith)
 
 returns : tie.Need-returns Inv-loop μ-loop
 returns c =
     let l = c .before .loop in
-    let a = c .before .before .before .args in
+    let a = c .before .before .before .before .args in
     let e : l .j ≡ a .count = omega arith in
     rw (← e) (l .inv .1)
 
@@ -107,6 +110,7 @@ count-live-spec =
     (tie.spec
     Inv-loop
     μ-loop
+    run-blocks-requires
     mul-full
     loop-holds
     mul-a
