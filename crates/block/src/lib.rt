@@ -77,6 +77,22 @@ fn least(s: &[u8]) -> u8
     best
 }
 
+// How far the greatest level is below 255: a least number, so that a test for a run of zeros compares many cells together.
+fn room_above(s: &[u8]) -> u8
+    ensures { λ r. ⌜ r + greatestOf (now (s .entry)) ≡ 255 ⌝ }
+{
+    let mut best: u8 = 255;
+    let mut i: usize = 0;
+    while i < s.len() {
+        let x = 255 - s[i];
+        if x < best {
+            best = x;
+        }
+        i += 1;
+    }
+    best
+}
+
 // The first cell above the top level; its place is looked for only if the greatest level is above it.
 pub fn first_above(s: &[u8], top: u8) -> Level
     ensures { λ r. ⌜ asFound r ≡ firstAbove top (now (s .entry)) ⌝ }
@@ -219,7 +235,7 @@ fn run_at(b: &[u8], level: u8) -> bool
     ensures { λ r. ⌜ (r ≡ true → RunAt level (now (b .entry))) ⌝ }
 {
     if level == 0 {
-        return greatest(b) == 0;
+        return room_above(b) == 255;
     }
     level <= least(b)
 }
