@@ -106,3 +106,10 @@ native_program() {
         for_machine target/native/drive.bc target/native/drive.o &&
         gcc -o target/native/drive target/native/drive.o
 }
+
+# native_compare: the comparison with the library for this machine linked in, at target/native/cargo/release/compare
+native_compare() {
+    local folder=$PWD/target/native
+    native_archive && native_program &&
+        (cd second && HARPGINGER_ARCHIVE=$folder CARGO_TARGET_DIR=$folder/cargo cargo build --offline --release --quiet)
+}

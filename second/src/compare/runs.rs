@@ -182,14 +182,14 @@ fn demand_3(settings: &Settings) -> u64 {
     count as u64
 }
 
-/// From built sheets of every stage, some hundred changes at most.
+/// From built sheets of every stage, a hundred changes or two.
 fn from_built(comparison: &mut Comparison, random: &mut Random, asked: [u64; 4]) {
     let settings = Settings::asked(asked);
     for stage in 0..settings.s.max(1) {
         for next in [AnyBit, AnyBit, OneBit] {
             let sheet = accepted(random, &settings, stage);
             let case = Case::on(Call::Change, &settings, &sheet);
-            Run::new(comparison, case, 300, bits(random, settings.k, next));
+            Run::new(comparison, case, 200, bits(random, settings.k, next));
         }
     }
 }
