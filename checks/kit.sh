@@ -8,6 +8,7 @@ target=x86_64-unknown-linux-gnu
 # Programs run on the kit's loader and C library, under its emulator where the machine is another.
 emulator=$tools/bin/qemu-x86_64
 [ -x "$emulator" ] || emulator=
+# shellcheck disable=SC2034 # used where this is sourced
 run="$emulator $tools/lib/ld-linux-x86-64.so.2 --library-path $tools/lib"
 
 # fresh FILE: whether it is there and no older than what it is made of
