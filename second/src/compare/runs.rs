@@ -42,23 +42,26 @@ const SMALL: [Start; 12] = [
 
 const LIMITS: [Start; 11] = [
     ([0, 2, 1, 16_384], &[Adversary]),
-    ([0, 2, 255, 100], EVERY),
+    ([0, 2, 255, 40], EVERY),
     ([0, 63, 2, 4_200], EVERY),
     ([0, 64, 1, 16_384], &[Adversary]),
     ([0, 64, 255, 4_096], &[Adversary]),
     ([1, 4, 1, 16_384], &[AnyBit]),
-    ([1, 4, 255, 300], &[AnyBit]),
-    ([1, 16, 255, 350], EVERY),
+    ([1, 4, 255, 100], &[AnyBit]),
+    ([1, 16, 255, 350], &[AnyBit]),
     ([1, 32, 2, 3_000], EVERY),
     ([1, 64, 1, 16_384], &[AnyBit]),
     ([1, 64, 2, 8_100], &[OneBit]),
 ];
 
-const LONGEST: [Start; 11] = [
+const LONGEST: [Start; 14] = [
     ([0, 2, 1, 16_384], &[OneBit, AnyBit]),
+    ([0, 2, 255, 100], EVERY),
     ([0, 63, 2, 16_384], &[Adversary]),
     ([0, 64, 1, 16_384], &[OneBit, AnyBit]),
     ([1, 4, 1, 16_384], &[OneBit, Adversary]),
+    ([1, 4, 255, 300], &[AnyBit]),
+    ([1, 16, 255, 350], &[OneBit, Adversary]),
     ([1, 64, 1, 16_384], &[OneBit, Adversary]),
     ([1, 64, 2, 8_100], &[AnyBit]),
     ([0, 2, 15, 16_384], EVERY),
