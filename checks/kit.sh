@@ -8,6 +8,7 @@ target=x86_64-unknown-linux-gnu
 # Programs run on the kit's loader and C library, under its emulator where the machine is another.
 emulator=$tools/bin/qemu-x86_64
 [ -x "$emulator" ] || emulator=
+# shellcheck disable=SC2034 # used where this is sourced
 run="$emulator $tools/lib/ld-linux-x86-64.so.2 --library-path $tools/lib"
 
 # fresh FILE: whether it is there and no older than what it is made of
@@ -105,4 +106,11 @@ native_program() {
     keeping target/native/drive.bc rt check drive &&
         for_machine target/native/drive.bc target/native/drive.o &&
         gcc -o target/native/drive target/native/drive.o
+}
+
+# native_compare: the comparison with the library for this machine linked in, at target/native/cargo/release/compare
+native_compare() {
+    local folder=$PWD/target/native
+    native_archive && native_program &&
+        (cd second && HARPGINGER_ARCHIVE=$folder CARGO_TARGET_DIR=$folder/cargo cargo build --offline --release --quiet)
 }

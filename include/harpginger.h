@@ -1,5 +1,6 @@
 /* Harpginger: k bits on a sheet of flash cells whose levels only rise, so that erasing is put off
-   for as long as the guarantee says. Link with target/staticlib/libcapi.a (x86-64).
+   for as long as the guarantee says. Link with target/native/libcapi.a, which checks/native writes
+   for this machine, or with target/staticlib/libcapi.a, which is for x86-64.
 
    Every call takes any numbers, any lengths and any levels, and always ends with one of the nine
    answers below, as its number. The answer's value goes to the place `value`, which every call

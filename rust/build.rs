@@ -1,10 +1,11 @@
 //! Links the compiled library, libcapi.a. HARPGINGER_ARCHIVE names the folder that holds it, from
-//! this package's folder or absolute; without it that is ../target/staticlib.
+//! this package's folder or absolute. Without it that is ../target/native, the build for this
+//! machine, where the archive is there; else ../target/staticlib, for x86-64 alone.
 //!
-//! The archive is for x86-64. Where it can't be linked a warning says why; `cargo check` works there
-//! all the same, and whatever has to be linked stops at the missing library.
+//! Where there is none to link a warning says why; `cargo check` works there all the same, and
+//! whatever has to be linked stops at the missing library.
 
-use std::path::{Path, PathBuf};
+use std::path::PathBuf;
 use std::{env, fs};
 
 fn main() {
@@ -22,21 +23,30 @@ fn main() {
 
 /// The folder of an archive that this build can link, or why there is none.
 fn folder() -> Result<PathBuf, String> {
-    let named = env::var_os("HARPGINGER_ARCHIVE").unwrap_or_else(|| "../target/staticlib".into());
-    let named = Path::new(&named);
-    let archive = named.join("libcapi.a");
-    println!("cargo::rerun-if-changed={}", archive.display());
-    let arch = env::var("CARGO_CFG_TARGET_ARCH").unwrap_or_default();
-    if arch != "x86_64" {
-        return Err(format!(
-            "libcapi.a is for x86-64 and this build is for {arch}"
-        ));
+    if let Some(named) = env::var_os("HARPGINGER_ARCHIVE") {
+        return archive_in(PathBuf::from(named));
     }
+    let native = match env::var("HOST") == env::var("TARGET") {
+        true => archive_in(PathBuf::from("../target/native")),
+        false => Err(String::from(
+            "this build is not for this machine, and HARPGINGER_ARCHIVE names no archive",
+        )),
+    };
+    match env::var("CARGO_CFG_TARGET_ARCH").as_deref() {
+        Ok("x86_64") => native.or_else(|_| archive_in(PathBuf::from("../target/staticlib"))),
+        _ => native,
+    }
+}
+
+/// The folder, if it holds an archive. Whether its processor is the build's, the linker sees.
+fn archive_in(folder: PathBuf) -> Result<PathBuf, String> {
+    let archive = folder.join("libcapi.a");
+    println!("cargo::rerun-if-changed={}", archive.display());
     if !archive.is_file() {
         return Err(format!(
-            "{} is not there (`rt staticlib capi` builds it)",
+            "{} is not there (`checks/native` writes the archive for this machine)",
             archive.display()
         ));
     }
-    fs::canonicalize(named).map_err(|error| format!("{}: {error}", named.display()))
+    fs::canonicalize(&folder).map_err(|error| format!("{}: {error}", folder.display()))
 }

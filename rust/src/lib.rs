@@ -23,8 +23,9 @@
 //!
 //! # Linking
 //!
-//! The library is the archive `libcapi.a`, for x86-64; `rt staticlib capi` builds it. The variable
-//! `HARPGINGER_ARCHIVE` names its folder at build time, `../target/staticlib` without it.
+//! The library is the archive `libcapi.a`. `checks/native` writes it for this machine to
+//! `../target/native`, which is linked where it is there; `rt staticlib capi` writes the one for
+//! x86-64 to `../target/staticlib`. `HARPGINGER_ARCHIVE` names another folder at build time.
 
 #![deny(missing_docs)]
 

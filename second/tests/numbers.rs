@@ -3,6 +3,7 @@
 mod common;
 
 use common::{accept, bits, cells, checked_change, least, stage, sum};
+use second::compare::example;
 use second::drive::drive;
 use second::random::Random;
 use second::{change, erase, read, Answer, Settings};
@@ -162,20 +163,7 @@ fn lines(input: &[u8]) -> String {
 
 #[test]
 fn the_drive_example() {
-    let steps = [
-        (1, 0),
-        (2, 0),
-        (2, 1),
-        (2, 0),
-        (2, 0),
-        (2, 2),
-        (3, 0),
-        (9, 0),
-    ];
-    let records: Vec<u8> = steps
-        .iter()
-        .flat_map(|&(operation, bit)| [operation, 0, 2, 1, 4, 0, bit, 0])
-        .collect();
+    let records = example();
     let expected =
         "0 3 0 00\n0 1 1 10\n0 1 2 11\n0 1 3 01\n7 0 3 01\n4 0 3 01\n0 1 3 01\n8 0 3 01\n";
     assert_eq!(lines(&records), expected);

@@ -93,6 +93,11 @@ impl<'a> Comparison<'a> {
         }
     }
 
+    /// How many cases differed since the last time.
+    pub fn differences(&self) -> u64 {
+        self.tally.differences
+    }
+
     /// What the cases since the last time came to, the smallest made smaller still.
     pub fn take_tally(&mut self) -> Tally {
         let mut tally = std::mem::take(&mut self.tally);

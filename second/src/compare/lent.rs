@@ -33,7 +33,7 @@ impl<T: Copy + PartialEq> Lent<T> {
     /// Takes so many marks as content, and sets the guards anew.
     pub fn fill_marks(&mut self, count: usize) {
         if self.guard == 0 {
-            self.places = vec![self.mark; count];
+            self.places = own_memory(self.mark, count);
             return;
         }
         self.places.clear();
@@ -57,6 +57,13 @@ impl<T: Copy + PartialEq> Lent<T> {
         let after = &rest[rest.len() - self.guard..];
         before.iter().chain(after).all(|place| *place == self.mark)
     }
+}
+
+/// So many marks in memory of their own and exactly as long: more of it would hide a step outside.
+fn own_memory<T: Copy>(mark: T, count: usize) -> Vec<T> {
+    let places = vec![mark; count];
+    assert_eq!(places.capacity(), count, "memory beyond what is lent");
+    places
 }
 
 /// All that one call may be lent.
@@ -123,6 +130,21 @@ mod tests {
             assert_eq!(found.difference(&expected), None);
             found.sheet.places[outside] ^= 1;
             assert!(found.difference(&expected).unwrap().contains("outside"));
+        }
+    }
+
+    #[test]
+    fn exact_slices_are_the_whole_of_their_memory() {
+        let mut lents = Lents::new(true);
+        for count in [1, 3, 700, 7, 64, 16_384, 2] {
+            lents.record.fill_marks(count);
+            lents.sheet.fill(&vec![1; count]);
+            lents.output.fill_marks(count);
+            assert_eq!(lents.record.slice().len(), lents.record.places.capacity());
+            for lent in [&lents.sheet, &lents.output] {
+                assert_eq!((lent.places.len(), lent.places.capacity()), (count, count));
+                assert_eq!(lent.slice().as_ptr(), lent.places.as_ptr());
+            }
         }
     }
 

@@ -83,6 +83,11 @@ impl From<Answer> for Reply {
 }
 
 impl Settings {
+    /// The record of the kind, k, L and n; of zeros where they are refused.
+    pub(super) fn asked([kind, k, top, n]: [u64; 4]) -> Settings {
+        Settings::accept(kind, k, top, n).1
+    }
+
     /// The record's 7 numbers.
     pub(super) fn numbers(&self) -> [usize; 7] {
         [self.kind, self.k, self.top, self.n, self.m, self.s, self.w]

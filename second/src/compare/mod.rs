@@ -42,5 +42,5 @@ pub use impostor::Impostor;
 pub use library::{Library, Model, Reply};
 pub use plan::{Group, Plan, Size};
 pub use programs::{compare_programs, Compiled, FileTally, Program};
-pub use records::some_file;
+pub use records::{example, some_file};
 pub use served::Served;

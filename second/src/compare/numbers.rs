@@ -72,13 +72,9 @@ fn settings_give(comparison: &mut Comparison, asked: [usize; 4], guarantee: Opti
     });
 }
 
-fn accept(asked: [u64; 4]) -> Settings {
-    Settings::accept(asked[0], asked[1], asked[2], asked[3]).1
-}
-
 /// At each place of the sheet the block holds its bit and value, and takes its next step.
 fn on_a_cycle(comparison: &mut Comparison, block: &str, bit: usize, value: u8, next: &str) {
-    let settings = accept([0, 4, 2, 16]);
+    let settings = Settings::asked([0, 4, 2, 16]);
     for first in [0, 4, 8, 12] {
         let mut sheet = vec![0; 16];
         sheet[first..first + 4].copy_from_slice(&cells(block));
@@ -98,7 +94,7 @@ fn on_a_cycle(comparison: &mut Comparison, block: &str, bit: usize, value: u8, n
 
 /// The block is BadSheet for both calls.
 fn on_no_cycle(comparison: &mut Comparison, block: &str) {
-    let settings = accept([0, 4, 2, 16]);
+    let settings = Settings::asked([0, 4, 2, 16]);
     for first in [0, 4, 8, 12] {
         let mut sheet = vec![0; 16];
         sheet[first..first + 4].copy_from_slice(&cells(block));
@@ -110,7 +106,7 @@ fn on_no_cycle(comparison: &mut Comparison, block: &str) {
 
 /// The move on the staged sheet of 28, and bit 1 four times from there.
 fn staged_of_28(comparison: &mut Comparison) {
-    let settings = accept([1, 4, 2, 28]);
+    let settings = Settings::asked([1, 4, 2, 28]);
     let sheet = cells("1000 0100 0010 2222 00 00 00 00 00 00");
     let mut case = Case::on(Call::Change, &settings, &sheet);
     let steps = [

@@ -126,13 +126,16 @@ impl Plan {
         }
     }
 
-    /// How many cases of all groups differ.
+    /// How many cases differ, up to the end of the first group where any does.
     fn differences(&self, library: &dyn Library) -> u64 {
         let mut comparison = Comparison::new(library, self.exact, self.trace);
         for (_, work) in GROUPS {
             work(&mut comparison, self);
+            if comparison.differences() > 0 {
+                break;
+            }
         }
-        comparison.take_tally().differences
+        comparison.differences()
     }
 
     fn rounds(&self, light: usize, default: usize) -> usize {

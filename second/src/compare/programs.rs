@@ -110,7 +110,7 @@ pub fn compare_programs(program: &dyn Program, seed: u64, files: usize, size: Si
     }
     let (long, largest) = match size {
         Size::Light => (3_000, 40),
-        Size::Default => (100_000, 4_000),
+        Size::Default => (50_000, 3_000),
         Size::Long => (1_000_000, 50_000),
     };
     for asked in SMALL {

@@ -130,9 +130,8 @@ fn bytes(settings: &Settings) -> [u8; 5] {
     [kind, k, top, low, high]
 }
 
-/// The files that are the same for every seed: no byte at all, the rules' example and all its
-/// cuts, and a file with each byte of each operation's record set to each value.
-pub fn fixed_files() -> Vec<Vec<u8>> {
+/// The records of the rules' example.
+pub fn example() -> Vec<u8> {
     let steps = [
         (1, 0),
         (2, 0),
@@ -143,10 +142,14 @@ pub fn fixed_files() -> Vec<Vec<u8>> {
         (3, 0),
         (9, 0),
     ];
-    let example: Vec<u8> = steps
-        .iter()
-        .flat_map(|&(operation, bit)| [operation, 0, 2, 1, 4, 0, bit, 0])
-        .collect();
+    let record = |(operation, bit)| [operation, 0, 2, 1, 4, 0, bit, 0];
+    steps.into_iter().flat_map(record).collect()
+}
+
+/// The files that are the same for every seed: no byte at all, the rules' example and all its
+/// cuts, and a file with each byte of each operation's record set to each value.
+pub fn fixed_files() -> Vec<Vec<u8>> {
+    let example = example();
     let mut files: Vec<Vec<u8>> = (0..=example.len())
         .map(|cut| example[..cut].to_vec())
         .collect();
@@ -177,7 +180,7 @@ fn each_byte(good: [u8; 5]) -> Vec<u8> {
 
 /// Changes to Erase and a new sheet after it, over and over, on these settings.
 pub fn long_run(random: &mut Random, asked: [u64; 4], records: usize) -> Vec<u8> {
-    let settings = Settings::accept(asked[0], asked[1], asked[2], asked[3]).1;
+    let settings = Settings::asked(asked);
     let asked = bytes(&settings);
     let push = |file: &mut Vec<u8>, operation: u8, bit: u8| {
         file.push(operation);

@@ -41,20 +41,29 @@ const SMALL: [Start; 12] = [
 ];
 
 const LIMITS: [Start; 11] = [
-    ([0, 2, 1, 16_384], EVERY),
-    ([0, 2, 255, 100], EVERY),
-    ([0, 63, 2, 16_384], &[Adversary]),
-    ([0, 64, 1, 16_384], EVERY),
+    ([0, 2, 1, 16_384], &[Adversary]),
+    ([0, 2, 255, 40], EVERY),
+    ([0, 63, 2, 4_200], EVERY),
+    ([0, 64, 1, 16_384], &[Adversary]),
     ([0, 64, 255, 4_096], &[Adversary]),
-    ([1, 4, 1, 16_384], EVERY),
-    ([1, 4, 255, 300], &[AnyBit]),
-    ([1, 16, 255, 350], EVERY),
+    ([1, 4, 1, 16_384], &[AnyBit]),
+    ([1, 4, 255, 100], &[AnyBit]),
+    ([1, 16, 255, 350], &[AnyBit]),
     ([1, 32, 2, 3_000], EVERY),
-    ([1, 64, 1, 16_384], EVERY),
-    ([1, 64, 2, 8_100], &[AnyBit]),
+    ([1, 64, 1, 16_384], &[AnyBit]),
+    ([1, 64, 2, 8_100], &[OneBit]),
 ];
 
-const LONGEST: [Start; 5] = [
+const LONGEST: [Start; 14] = [
+    ([0, 2, 1, 16_384], &[OneBit, AnyBit]),
+    ([0, 2, 255, 100], EVERY),
+    ([0, 63, 2, 16_384], &[Adversary]),
+    ([0, 64, 1, 16_384], &[OneBit, AnyBit]),
+    ([1, 4, 1, 16_384], &[OneBit, Adversary]),
+    ([1, 4, 255, 300], &[AnyBit]),
+    ([1, 16, 255, 350], &[OneBit, Adversary]),
+    ([1, 64, 1, 16_384], &[OneBit, Adversary]),
+    ([1, 64, 2, 8_100], &[AnyBit]),
     ([0, 2, 15, 16_384], EVERY),
     ([0, 64, 15, 16_384], EVERY),
     ([0, 64, 255, 4_096], EVERY),
@@ -62,17 +71,12 @@ const LONGEST: [Start; 5] = [
     ([1, 64, 255, 4_726], EVERY),
 ];
 
-/// Settings at the limits, where runs start from built sheets and end after so many changes.
-const BUILT: [[u64; 4]; 8] = [
-    [0, 2, 1, 16_384],
-    [0, 2, 255, 16_384],
-    [0, 64, 1, 16_384],
-    [0, 64, 255, 16_384],
-    [1, 4, 1, 16_384],
-    [1, 4, 255, 16_384],
-    [1, 64, 1, 16_384],
-    [1, 64, 255, 16_384],
-];
+/// The least and the most of k and of L for both kinds, each with the most cells.
+fn corners() -> impl Iterator<Item = [u64; 4]> {
+    [(0, 2), (0, 64), (1, 4), (1, 64)]
+        .into_iter()
+        .flat_map(|(kind, k)| [1, 255].map(|top| [kind, k, top, 16_384]))
+}
 
 /// The runs of this size, and all of smaller sizes.
 pub fn runs(comparison: &mut Comparison, seed: u64, size: Size) {
@@ -90,7 +94,7 @@ pub fn runs(comparison: &mut Comparison, seed: u64, size: Size) {
         }
     }
     if size != Size::Light {
-        for asked in BUILT {
+        for asked in corners() {
             from_built(comparison, &mut random, asked);
         }
     }
@@ -147,7 +151,7 @@ fn bits(random: &mut Random, k: usize, next: Next) -> impl FnMut(u64) -> usize +
 
 /// From erase to Erase: never before demand 3's count, and levels sum to what was answered.
 fn from_erase(comparison: &mut Comparison, random: &mut Random, asked: [u64; 4], next: Next) {
-    let settings = Settings::accept(asked[0], asked[1], asked[2], asked[3]).1;
+    let settings = Settings::asked(asked);
     let mut case = Case::on(Call::Erase, &settings, &vec![1; settings.n]);
     comparison.compare(&case);
     case.sheet.copy_from_slice(comparison.sheet());
@@ -181,14 +185,14 @@ fn demand_3(settings: &Settings) -> u64 {
     count as u64
 }
 
-/// From built sheets of every stage, some hundred changes at most.
+/// From built sheets of every stage, a hundred changes or two.
 fn from_built(comparison: &mut Comparison, random: &mut Random, asked: [u64; 4]) {
-    let settings = Settings::accept(asked[0], asked[1], asked[2], asked[3]).1;
+    let settings = Settings::asked(asked);
     for stage in 0..settings.s.max(1) {
         for next in [AnyBit, AnyBit, OneBit] {
             let sheet = accepted(random, &settings, stage);
             let case = Case::on(Call::Change, &settings, &sheet);
-            Run::new(comparison, case, 300, bits(random, settings.k, next));
+            Run::new(comparison, case, 200, bits(random, settings.k, next));
         }
     }
 }

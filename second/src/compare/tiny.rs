@@ -51,12 +51,12 @@ fn staged(comparison: &mut Comparison, cells: usize) {
 /// after the last too.
 fn each_level(
     comparison: &mut Comparison,
-    [kind, k, top, n]: [u64; 4],
+    asked: [u64; 4],
     sheet: &[u8],
     cells: std::ops::Range<usize>,
     highest: u8,
 ) {
-    let (_, settings) = Settings::accept(kind, k, top, n);
+    let settings = Settings::asked(asked);
     let mut case = Case::on(Call::Read, &settings, sheet);
     loop {
         case.call = Call::Read;

@@ -19,15 +19,15 @@
 //! - `--replay 'CASE'`: runs one case, as a difference prints it.
 //! - `--records N`: writes a file of N records, to feed the drive program by hand.
 //!
-//! From this package's folder, the build, the default run, a longer one, and one under a tool that
-//! watches memory:
+//! From the repository's folder, the default run, a longer one, both with the build for this
+//! machine, and one under a tool that watches memory:
 //!
 //! ```text
-//! HARPGINGER_ARCHIVE=../target/staticlib cargo build --offline --release
-//! target/release/compare --program ../target/bin/drive
-//! target/release/compare --program ../target/bin/drive --calls 5000000
-//! valgrind --error-exitcode=9 target/release/compare --light --exact --calls 2000
-//! target/release/compare --records 2000 | valgrind --error-exitcode=9 ../target/bin/drive
+//! checks/compare
+//! checks/compare --calls 1000000 --files 3000
+//! checks/compare --native
+//! checks/compare --native --calls 1000000 --files 3000
+//! checks/memory
 //! ```
 //!
 //! The compiled library is linked where HARPGINGER_ARCHIVE names the folder of libcapi.a while this
