@@ -1,0 +1,16 @@
+//! What the benchmarks share: the compiled library, the sheets it is measured on, clock and tables.
+
+#![deny(missing_docs)]
+
+pub mod bits;
+pub mod count;
+pub mod foreign;
+pub mod job;
+pub mod moves;
+pub mod places;
+pub mod programs;
+pub mod rows;
+pub mod runs;
+pub mod sheets;
+pub mod table;
+pub mod timing;
