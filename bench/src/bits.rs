@@ -9,7 +9,8 @@ pub enum Bits {
     Random(u64),
     /// Bit 0 always.
     One,
-    /// Bits 1 to k - 1 once each, so that each takes up a block, then bit 0 always.
+    /// Bits 1 to k - 1 once each, so that each takes up a block, then bit 0 always: the worst run
+    /// of a plain sheet.
     Adversary,
 }
 

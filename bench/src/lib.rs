@@ -2,11 +2,14 @@
 
 #![deny(missing_docs)]
 
+pub mod adversary;
 pub mod bits;
 pub mod count;
+pub mod endurance;
 pub mod foreign;
 pub mod job;
 pub mod moves;
+pub mod picture;
 pub mod places;
 pub mod programs;
 pub mod rows;

@@ -15,7 +15,7 @@ const ROUNDS: usize = 201;
 const RUNS: [(Bits, &str); 3] = [
     (Bits::Random(1), "random bits"),
     (Bits::Random(2), "random bits"),
-    (Bits::Adversary, "the adversary"),
+    (Bits::Adversary, "bits 1 to k - 1, then 0"),
 ];
 
 /// A change that leaves its stage.

@@ -71,15 +71,15 @@ pub fn name(settings: &Settings) -> String {
     format!("{} k = {k}, L = {top}, n = {n}", kind_name(settings.kind))
 }
 
-/// A number with a comma before each three digits.
+/// A number of at most twelve digits, with a comma before each three.
 pub fn grouped(number: u64) -> String {
     let digits = number.to_string();
     let mut text = String::new();
-    for (place, digit) in digits.chars().enumerate() {
-        if place > 0 && (digits.len() - place) % 3 == 0 {
+    for (left, digit) in (0..digits.len()).rev().zip(digits.chars()) {
+        text.push(digit);
+        if matches!(left, 3 | 6 | 9) {
             text.push(',');
         }
-        text.push(digit);
     }
     text
 }
