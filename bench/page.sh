@@ -11,10 +11,13 @@ build() {
 
 # put PART FILE: the text between the part's two marks in the page becomes that of the file
 put() {
-    grep -qx "<!-- $1 -->" "$page" && grep -qx "<!-- end of $1 -->" "$page" || {
-        echo "$page has no place for $1" >&2
-        return 1
-    }
+    local mark
+    for mark in "$1" "end of $1"; do
+        grep -qx "<!-- $mark -->" "$page" || {
+            echo "$page has no mark $mark" >&2
+            return 1
+        }
+    done
     awk -v first="<!-- $1 -->" -v last="<!-- end of $1 -->" -v file="$2" '
         $0 == last { within = 0 }
         !within { print }

@@ -1,4 +1,4 @@
-//! Instructions of a call, counted by valgrind's callgrind: the same in every run.
+//! Instructions of a call, counted by valgrind's callgrind, whatever else the machine does.
 
 use crate::job::By;
 use crate::rows::{rows, table, Row, CALLS};

@@ -1,6 +1,6 @@
 //! The picture of endurance, as SVG: plain and staged side by side, each count as a share of n L.
 
-use crate::endurance::Measured;
+use crate::measured::Measured;
 use crate::places::kind_name;
 use crate::table::grouped;
 use second::Settings;
@@ -32,6 +32,10 @@ pub fn draw(all: &[Measured]) -> String {
     let bottom = TOP + ROW * shapes.len();
     let height = bottom + 62;
     let mut svg = String::new();
+    put(
+        &mut svg,
+        "<!-- Endurance of plain and staged sheets, drawn by bench/src/picture.rs. -->".into(),
+    );
     start(&mut svg, height);
     legend(&mut svg);
     for kind in [0, 1] {

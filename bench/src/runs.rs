@@ -3,7 +3,8 @@
 use crate::bits::Bits;
 use crate::foreign::Compiled;
 use crate::job::bare;
-use crate::places::{both_kinds, stage};
+use crate::places::both_kinds;
+use crate::slowest::slowest;
 use crate::table::{cells, grouped, heads, name, ratio, Table};
 use crate::timing::Figures;
 use second::Settings;
@@ -42,8 +43,8 @@ pub fn print() {
         let mut row = vec![name(&settings), grouped(bits.len() as u64)];
         row.extend(cells(&figures));
         row.extend([
-            grouped(slowest),
-            ratio(slowest as f64 / figures.bare),
+            grouped(slowest.library.round() as u64),
+            ratio(slowest.to_bare),
             which,
         ]);
         table.row(row);
@@ -85,38 +86,4 @@ fn nanoseconds(bits: &[usize], mut call: impl FnMut(usize) -> bool) -> f64 {
     let time = start.elapsed().as_nanos() as f64;
     assert_eq!(done, bits.len(), "every call is done");
     time / bits.len() as f64
-}
-
-/// The time of the slowest change of the run by the library, and what it does. A change's time is
-/// its least of all runs, so that what the machine does beside it is left out.
-fn slowest(settings: &Settings, bits: &[usize]) -> (u64, String) {
-    let library = Compiled::accept(settings);
-    let mut times = vec![u64::MAX; bits.len()];
-    let mut does = vec![(0, 0); bits.len()];
-    for _ in 0..RUNS {
-        let (mut sheet, mut from) = (vec![0; settings.n], 0);
-        for (place, &bit) in bits.iter().enumerate() {
-            let start = Instant::now();
-            let reply = library.change(&mut sheet, bit);
-            times[place] = times[place].min(start.elapsed().as_nanos() as u64);
-            assert_eq!(reply.answer, 0);
-            let to = if reply.value > 1 {
-                stage(settings, &sheet)
-            } else {
-                from
-            };
-            does[place] = (from, to);
-            from = to;
-        }
-    }
-    let (place, &time) = times
-        .iter()
-        .enumerate()
-        .max_by_key(|(_, &time)| time)
-        .expect("a change");
-    let which = match does[place] {
-        (from, to) if from < to => format!("a move, stage {from} to {to}"),
-        (at, _) => format!("change {} at stage {at}", grouped(place as u64 + 1)),
-    };
-    (time, which)
 }

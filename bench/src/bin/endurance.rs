@@ -1,6 +1,7 @@
 //! Measures endurance, writes the file of it that is named, and prints the table.
 
-use bench::endurance::{file, measure, parse, table};
+use bench::endurance::measure;
+use bench::measured::{file, parse, table};
 use std::process::ExitCode;
 
 fn main() -> ExitCode {
