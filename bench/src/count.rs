@@ -1,0 +1,70 @@
+//! Instructions of a call, counted by valgrind's callgrind, whatever else the machine does.
+
+use crate::job::By;
+use crate::rows::{rows, table, Row, CALLS};
+use crate::timing::Figures;
+use std::env;
+use std::path::Path;
+use std::process::Command;
+
+/// Who is counted.
+const ORDER: [By; 3] = [By::Bare, By::Library, By::Second];
+
+/// How many calls are counted; their bits are spread over all bits.
+const CALLS_COUNTED: usize = 4;
+
+/// The tables of all calls, each row counted in runs of this program under valgrind, which also
+/// writes a file of its own.
+pub fn print(file: &Path) {
+    let mut place = 0;
+    let mut figures = |_: &Row| {
+        let run = |by, calls| instructions(file, [place, by, calls]);
+        let without = run(0, 0);
+        let [bare, library, second] =
+            [0, 1, 2].map(|by| (run(by, CALLS_COUNTED) - without) as f64 / CALLS_COUNTED as f64);
+        place += 1;
+        Figures::new(bare, library, second)
+    };
+    for (call, title) in CALLS {
+        let table = table(call, "instructions", &mut figures);
+        println!("**{title}**\n\n{table}");
+    }
+}
+
+/// The instructions of a whole run of this program: row, who and how many calls.
+fn instructions(file: &Path, words: [usize; 3]) -> u64 {
+    let output = Command::new("valgrind")
+        .arg("--tool=callgrind")
+        .arg(format!("--callgrind-out-file={}", file.display()))
+        .arg(env::current_exe().expect("this program's path"))
+        .arg("counted")
+        .args(words.map(|word| word.to_string()))
+        .output()
+        .expect("valgrind runs");
+    assert!(output.status.success(), "every counted call is done");
+    let text = String::from_utf8_lossy(&output.stderr);
+    let count = text
+        .rsplit("Collected : ")
+        .next()
+        .map(|rest| rest.lines().next());
+    count
+        .flatten()
+        .and_then(|count| count.trim().parse().ok())
+        .expect("a count")
+}
+
+/// What runs under valgrind: a call by each, and so many more by one, that are all that differs.
+pub fn under_valgrind(row: usize, by: usize, calls: usize) {
+    let Row { job, .. } = CALLS
+        .into_iter()
+        .flat_map(|(call, _)| rows(call))
+        .nth(row)
+        .expect("a row");
+    for by in ORDER {
+        assert!(job.does(by, &mut job.sheet.clone(), 0));
+    }
+    let mut sheets = vec![job.sheet.clone(); CALLS_COUNTED];
+    for (turn, sheet) in sheets.iter_mut().take(calls).enumerate() {
+        assert!(job.does(ORDER[by], sheet, job.bit(turn, CALLS_COUNTED)));
+    }
+}

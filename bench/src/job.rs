@@ -1,0 +1,134 @@
+//! One call, to be done again and again by the library, by the second program or as a bare pass.
+
+use crate::foreign::{Compiled, Reply};
+use second::{Answer, Settings};
+use std::hint::black_box;
+
+/// Which call.
+#[derive(Clone, Copy, Debug, PartialEq, Eq)]
+pub enum Call {
+    /// Erase the sheet.
+    Erase,
+    /// Read the bits.
+    Read,
+    /// Change a bit.
+    Change,
+}
+
+/// Who does the job.
+#[derive(Clone, Copy, Debug, PartialEq, Eq)]
+pub enum By {
+    /// Nobody: the cells are summed and nothing else.
+    Bare,
+    /// The compiled library.
+    Library,
+    /// The second program.
+    Second,
+}
+
+/// A call with its settings and its sheet.
+#[derive(Clone, Debug)]
+pub struct Job {
+    /// The settings.
+    pub settings: Settings,
+    /// The sheet before the call.
+    pub sheet: Vec<u8>,
+    call: Call,
+    /// A change of this bit; without it, of each bit in turn.
+    bit: Option<usize>,
+    /// The number of the answer that is expected.
+    answer: usize,
+    compiled: Compiled,
+}
+
+/// Places of an output.
+const PLACES: usize = 64;
+
+impl Job {
+    /// A call that is answered Done, whichever bit is changed.
+    pub fn new(settings: &Settings, sheet: Vec<u8>, call: Call) -> Job {
+        Job {
+            settings: *settings,
+            sheet,
+            call,
+            bit: None,
+            answer: 0,
+            compiled: Compiled::accept(settings),
+        }
+    }
+
+    /// A change of one bit, with the number of its answer.
+    pub fn change(settings: &Settings, sheet: Vec<u8>, bit: usize, answer: usize) -> Job {
+        Job {
+            bit: Some(bit),
+            answer,
+            ..Job::new(settings, sheet, Call::Change)
+        }
+    }
+
+    /// The bit for this turn, of so many turns.
+    pub fn bit(&self, turn: usize, turns: usize) -> usize {
+        self.bit.unwrap_or(turn * self.settings.k / turns)
+    }
+
+    /// Does the job once, and says whether it was answered as expected.
+    #[inline(never)]
+    pub fn does(&self, by: By, sheet: &mut [u8], bit: usize) -> bool {
+        match by {
+            By::Bare => {
+                black_box(bare(black_box(sheet)));
+                true
+            }
+            By::Library => self.library(sheet, bit, &mut [0; PLACES]).answer == self.answer,
+            By::Second => self.second(sheet, bit, &mut [0; PLACES]).number() == self.answer as u64,
+        }
+    }
+
+    /// Holds the library to the second program, for each bit, before anything is measured.
+    pub fn check(&self) {
+        for turn in 0..self.settings.k {
+            let bit = self.bit(turn, self.settings.k);
+            let (mut ours, mut theirs) = (self.sheet.clone(), self.sheet.clone());
+            let (mut our_bits, mut their_bits) = ([0; PLACES], [0; PLACES]);
+            let reply = self.library(&mut ours, bit, &mut our_bits);
+            let answer = self.second(&mut theirs, bit, &mut their_bits);
+            let same =
+                (answer.number(), answer.value()) == (reply.answer as u64, reply.value as u64);
+            assert!(
+                same && ours == theirs && our_bits == their_bits,
+                "{answer:?} {reply:?}"
+            );
+            assert_eq!(
+                reply.answer, self.answer,
+                "{:?} {:?}",
+                self.call, self.settings
+            );
+        }
+    }
+
+    fn library(&self, sheet: &mut [u8], bit: usize, output: &mut [u8; PLACES]) -> Reply {
+        let reply = match self.call {
+            Call::Erase => self.compiled.erase(sheet),
+            Call::Read => self.compiled.read(sheet, output),
+            Call::Change => self.compiled.change(sheet, bit),
+        };
+        black_box(output);
+        reply
+    }
+
+    fn second(&self, sheet: &mut [u8], bit: usize, output: &mut [u8; PLACES]) -> Answer {
+        let answer = match self.call {
+            Call::Erase => second::erase(&self.settings, sheet),
+            Call::Read => second::read(&self.settings, sheet, output),
+            Call::Change => second::change(&self.settings, sheet, bit),
+        };
+        black_box(output);
+        answer
+    }
+}
+
+/// The bare pass: the sum of the levels, which any call has to look at.
+#[inline(never)]
+pub fn bare(cells: &[u8]) -> u32 {
+    cells.iter().map(|&level| u32::from(level)).sum()
+}
