@@ -3,7 +3,7 @@ use mathlib.Core.List.{List, [], _∷_}
 use mathlib.Core.Path.{_≡_}
 use Prim.Native.Nat.{ℕ, _+_, _-_, _*_, _≤_, _<_, max, min}
 use native.Mathlib.Decide.{decLt}
-use lib.ListN.{length, take, drop}
+use lib.ListN.{getD, length, take, drop}
 use Rattle.rules.specs.Block.{State, empty, full, broken, active}
 use Rattle.rules.specs.Cells.{Low, block, sum}
 use Rattle.rules.specs.Search.{Found, at, nowhere, pick}
@@ -29,6 +29,10 @@ leastOf (x ∷ xs) = min x (leastOf xs)
 -- cells that pass for a run at level v: none is below it, and all are 0 if it is 0
 abbrev pub RunAt : ℕ → List ℕ → Type 0
 RunAt v s = (v ≤ leastOf s) × (v ≡ 0 → greatestOf s ≡ 0)
+
+-- no cell before cell n is below level v
+abbrev pub Leads : ℕ → List ℕ → ℕ → Type 0
+Leads v s n = (x : ℕ) → x < n → v ≤ getD s x 0
 
 -- every block from one number up to another weighs what one at level v does, or more, and nothing if v is 0
 abbrev pub RunFrom : ℕ → ℕ → List ℕ → ℕ → ℕ → Type 0

@@ -1,18 +1,21 @@
 -- Laws of runs of cells at one level, and of the blocks in them, which a scan passes over. Assumes nothing.
 use mathlib.Core.List.{List, [], _∷_}
-use mathlib.Core.Path.{_≡_, _∙_, ap, subst, sym}
-use Prim.Native.Nat.{ℕ, zero, suc, _+_, _-_, _*_, _≤_, _<_}
-use native.Mathlib.Decide.{decLt}
-use native.Mathlib.Nat.{add-mul, mul-le-mul-right}
+use mathlib.Core.Logic.{_≢_}
+use mathlib.Core.Path.{_≡_, _∙_, ap, refl, subst, sym}
+use Prim.Native.Nat.{ℕ, zero, suc, _+_, _-_, _*_, _/_, _≤_, _<_, min, suc-le-suc, zero-le}
+use native.Mathlib.Decide.{decLt, ℕ-discrete}
+use native.Mathlib.Nat.{add-mul, div-mul-le-self, le-div-iff-mul-le, le-of-suc-le-suc, mul-le-mul-right, not-suc-le-zero}
 use native.Mathlib.Omega.{arith}
-use lib.ListN.{drop, length, length-drop, length-take, take}
+use lib.ListN.{drop, getD, length, length-drop, length-take, take}
 use lib.Seq.{length-take-le}
 use Rattle.laws.specs.Cut.{block-fits, low-block}
 use Rattle.laws.specs.Lists.{low-drop, low-take}
 use Rattle.laws.specs.Splice.{part, part-part}
 use Rattle.rules.specs.Cells.{Low, block, sum}
+use Rattle.rules.specs.Search.{pick}
+use Rattle.rules.specs.SearchLaws.{pick-elim}
 use Rattle.block.specs.Laws.{greatest-low, least-small}
-use Rattle.block.specs.Meaning.{RunAt, RunFrom, leastOf}
+use Rattle.block.specs.Meaning.{Leads, RunAt, RunFrom, greatestOf, leastOf}
 use Rattle.block.specs.StateLaws.{sum-low}
 
 -- ---- a run
@@ -47,6 +50,43 @@ part-weight L a n s h l =
 -- a run at level 0 weighs nothing, and so does any part of it
 part-nothing : (a n : ℕ) (s : List ℕ) → Low 0 s → sum (take n (drop a s)) ≡ 0
 part-nothing a n s h = omega (arith, sum-low 0 (take n (drop a s)) (low-take 0 n (drop a s) (low-drop 0 a s h)))
+
+-- ---- the front of a run
+
+-- what a loop takes in: one more cell, which ends the front if it is lower
+pub lead-more : (v n i : ℕ) (s : List ℕ) → ((x : ℕ) → x < i → x < n → v ≤ getD s x 0) → (x : ℕ) → x < i + 1 → x < min n (pick (decLt (getD s i 0) v) i 255) → v ≤ getD s x 0
+lead-more v n i s f x l =
+    pick-elim (λ y. x < min n y → v ≤ getD s x 0) (decLt (getD s i 0) v) i 255
+    (λ h m. f x (omega arith) (omega arith))
+    (λ h m. go h (omega arith) (ℕ-discrete x i))
+  where
+    go : ¬ (getD s i 0 < v) → x < n → Dec (x ≡ i) → v ≤ getD s x 0
+    go h m (yes e) = subst (λ (y : ℕ). v ≤ getD s y 0) (sym e) (omega arith)
+    go h m (no e) = f x (omega arith) m
+
+-- cells none of which is below a level have a least one that isn't
+leads-least : (v n : ℕ) (s : List ℕ) → v ≤ 255 → n ≤ length s → Leads v s n → v ≤ leastOf (take n s)
+unfolding leastOf
+leads-least v zero s h l f = h
+leads-least v (suc n) [] h l f = absurd (not-suc-le-zero l)
+leads-least v (suc n) (x ∷ s) h l f = omega (arith, f 0 (suc-le-suc zero-le), leads-least v n s h (le-of-suc-le-suc l) (λ y m. f (suc y) (suc-le-suc m)))
+
+-- so the blocks that end before the first lower cell pass for a run
+pub front-run : (len v r : ℕ) (b : List ℕ) → 1 ≤ len → v ≤ 255 → v ≢ 0 → length b ≤ 64 → r ≤ length b → Leads v b r
+    → (r / len ≤ 64 / len) × (r / len * len ≤ length b) × RunAt v (take (r / len * len) b)
+front-run len v r b g h o n l f =
+    let e : r / len * len ≤ r = div-mul-le-self r len in (
+      le-div-iff-mul-le {k = len} {x = r / len} {y = 64} g .1 (omega arith),
+      omega arith,
+      (leads-least v (r / len * len) b h (omega arith) (λ x m. f x (omega arith)), λ z. absurd (o z)),
+    )
+
+-- and no block at all does
+pub front-none : (len v : ℕ) (b : List ℕ) → v ≤ 255 → (0 ≤ 64 / len) × (0 * len ≤ length b) × RunAt v (take (0 * len) b)
+unfolding leastOf greatestOf
+front-none len v b h =
+    let z : 0 ≡ 0 * len = omega arith in
+    (omega arith, omega arith, subst (λ (n : ℕ). RunAt v (take n b)) z (h, λ e. refl))
 
 -- ---- the blocks of a run
 

@@ -2,13 +2,13 @@
 ghost use mathlib.Core.Bool.{true, false};
 ghost use mathlib.Core.List.{_++_};
 ghost use mathlib.Core.Path.{_≡_};
-ghost use Prim.Native.Nat.{_+_, _-_, _*_, _≤_, _<_, max, min};
+ghost use Prim.Native.Nat.{_+_, _-_, _*_, _/_, _≤_, _<_, max, min};
 ghost use native.Mathlib.Decide.{decLt};
 ghost use lib.ListN.{length, take, drop, replicate};
 ghost use Rattle.rules.specs.Search.{pick};
 ghost use Rattle.rules.specs.Cells.{sum, Low, firstAbove, same?, block, store};
 ghost use Rattle.rules.specs.Block.{cycle, stateOf};
-ghost use Rattle.block.specs.Meaning.{RunAt, RunFrom, greatestOf, leastOf, asFound, asState, shapeOf};
+ghost use Rattle.block.specs.Meaning.{Leads, RunAt, RunFrom, greatestOf, leastOf, asFound, asState, shapeOf};
 
 // What a look at the levels finds: none above the top level, or the first cell that is.
 pub enum Level {
@@ -162,6 +162,13 @@ fn later(a: u8, b: u8) -> u8
     if a < b { b } else { a }
 }
 
+// The lesser of two cells.
+fn lesser(a: u8, b: u8) -> u8
+    ensures { λ r. ⌜ r ≡ min a b ⌝ }
+{
+    if a < b { a } else { b }
+}
+
 // A block's shape; before cell 0 comes the last. No cell ends the loop early, so that many cells are looked at together.
 fn shape_of(b: &[u8], top: u8) -> Shape
     requires { ⌜ (1 ≤ length (now b)) × (length (now b) ≤ 64) ⌝ }
@@ -243,12 +250,47 @@ fn run_at(b: &[u8], level: u8) -> bool
 // How many whole blocks of `len` cells a run of 64 cells has.
 pub fn run_blocks(len: usize) -> usize
     requires { ⌜ 1 ≤ len ⌝ }
-    ensures { λ r. ⌜ (r * len ≤ 64) × (r ≤ 64) ⌝ }
+    ensures { λ r. ⌜ r ≡ 64 / len ⌝ }
 {
     64 / len
 }
 
-// Past whole runs of 64 cells at a level, `step` blocks at a time: the number of the block, from a number on, to look at next. How far it goes is a matter of speed alone.
+// The number of a cell that is below a level, else 255.
+fn low_at(x: u8, level: u8, cell: u8) -> u8
+    ensures { λ r. ⌜ r ≡ pick (decLt x level) cell 255 ⌝ }
+{
+    if x < level { cell } else { 255 }
+}
+
+// How many cells at the front are not below a level. No cell ends the loop early, so that many cells are looked at together.
+fn lead(b: &[u8], level: u8) -> usize
+    requires { ⌜ length (now b) ≤ 64 ⌝ }
+    ensures { λ r. ⌜ (r ≤ length (now (b .entry))) × Leads level (now (b .entry)) r ⌝ }
+{
+    let mut best = b.len() as u8;
+    let mut i: usize = 0;
+    while i < b.len() {
+        best = lesser(best, low_at(b[i], level, i as u8));
+        i += 1;
+    }
+    best as usize
+}
+
+// How many whole blocks at the front of a run are full; short blocks alone are worth the look.
+fn front(b: &[u8], len: usize, step: usize, level: u8) -> usize
+    requires { ⌜ (1 ≤ len) × (step ≡ 64 / len) × (length (now b) ≤ 64) ⌝ }
+    ensures { λ r. ⌜ (r ≤ step) × (r * len ≤ length (now (b .entry))) × RunAt level (take (r * len) (now (b .entry))) ⌝ }
+{
+    if level == 0 {
+        return 0;
+    }
+    if step < 8 {
+        return 0;
+    }
+    lead(b, level) / len
+}
+
+// Past runs of cells at a level, 64 cells and `step` blocks at a time: the number of the block, from a number on, to look at next. How far it goes is a matter of speed alone.
 pub fn past_run(
     cells: &[u8],
     len: usize,
@@ -257,7 +299,7 @@ pub fn past_run(
     from: usize,
     level: u8,
 ) -> usize
-    requires { ⌜ (1 ≤ len) × (step * len ≤ 64) × (step ≤ 64) ⌝ }
+    requires { ⌜ (1 ≤ len) × (step ≡ 64 / len) ⌝ }
     requires { ⌜ (count * len ≤ length (now cells)) × (length (now cells) ≤ 65536) × (from ≤ count) ⌝ }
     ensures { λ r. ⌜ (from ≤ r) × (r ≤ count) × RunFrom len level (now (cells .entry)) from r ⌝ }
 {
@@ -272,7 +314,7 @@ pub fn past_run(
             return j;
         }
         if !run_at(&cells[a..e], level) {
-            return j;
+            return j + front(&cells[a..e], len, step, level);
         }
         j += step;
     }

@@ -68,7 +68,7 @@ past-run-requires c κs =
     let o = c .before .before .before .before .before in
     let g = o .before .before .before .before .pre in
     let e = same-long g (o .before .loop .inv) in
-    ((g .long, omega arith, omega arith), (omega (arith, g .ordered, g .inside), omega (arith, g .short), omega arith))
+    ((g .long, omega arith), (omega (arith, g .ordered, g .inside), omega (arith, g .short), omega arith))
 
 loop-less : tie.Need-loop-less Inv-loop μ-loop
 loop-less c = search needs
