@@ -31,11 +31,28 @@ struct Shape {
     middles: u8,
 }
 
+// The sum of so few levels that 16 bits hold it, which takes fewer steps.
+fn short_sum(s: &[u8]) -> usize
+    requires { ⌜ length (now s) ≤ 256 ⌝ }
+    ensures { λ r. ⌜ r ≡ sum (now (s .entry)) ⌝ }
+{
+    let mut total: u16 = 0;
+    let mut i: usize = 0;
+    while i < s.len() {
+        total += s[i] as u16;
+        i += 1;
+    }
+    total as usize
+}
+
 // The sum of the levels.
 pub fn sum_of(s: &[u8]) -> usize
     requires { ⌜ length (now s) ≤ 65536 ⌝ }
     ensures { λ r. ⌜ r ≡ sum (now (s .entry)) ⌝ }
 {
+    if s.len() <= 256 {
+        return short_sum(s);
+    }
     let mut total: u32 = 0;
     let mut i: usize = 0;
     while i < s.len() {
@@ -117,20 +134,6 @@ pub fn all_zero(s: &[u8]) -> bool
     greatest(s) == 0
 }
 
-// The weight of a block: a sum that needs 16 bits only.
-fn weight_of(b: &[u8]) -> usize
-    requires { ⌜ length (now b) ≤ 256 ⌝ }
-    ensures { λ r. ⌜ r ≡ sum (now (b .entry)) ⌝ }
-{
-    let mut total: u16 = 0;
-    let mut i: usize = 0;
-    while i < b.len() {
-        total += b[i] as u16;
-        i += 1;
-    }
-    total as usize
-}
-
 // 1 for a cell that is higher than the one before it, else 0.
 fn rise(before: u8, x: u8) -> u8
     ensures { λ r. ⌜ r ≡ min 1 (x - before) ⌝ }
@@ -200,7 +203,7 @@ pub fn state_of(b: &[u8], top: u8) -> BlockState
     requires { ⌜ Low top (now b) ⌝ }
     ensures { λ r. ⌜ asState r ≡ stateOf (length (now (b .entry))) top (now (b .entry)) ⌝ }
 {
-    let v = weight_of(b);
+    let v = short_sum(b);
     if v == 0 {
         return BlockState::Empty;
     }

@@ -9,13 +9,13 @@ use Rattle.block.specs.StateLaws.{state-empty, state-full}
 use Rattle.block.proofs.state_of.Statement.{statement}
 use Rattle.block.proofs.state_of.Tie as tie
 
-weight-of-requires : tie.Need-weight-of-requires
-weight-of-requires c κs = search needs
+short-sum-requires : tie.Need-short-sum-requires
+short-sum-requires c κs = search needs
 
 returns : tie.Need-returns
 returns c =
     let s = c .before .before .before in
-    state-empty (s .args .top) (s .args .b .now) _ (c .before .weight-of .ensures) (omega arith) (omega arith) (s .pre .1) (omega arith)
+    state-empty (s .args .top) (s .args .b .now) _ (c .before .short-sum .ensures) (omega arith) (omega arith) (s .pre .1) (omega arith)
 
 mul-if2 : tie.Need-mul-if2
 mul-if2 c =
@@ -27,7 +27,7 @@ mul-if2 c =
 returns-2 : tie.Need-returns-2
 returns-2 c =
     let s = c .before .before .before .before in
-    state-full (s .args .top) (s .args .b .now) _ (c .before .before .weight-of .ensures) (omega arith) (omega arith) (s .pre .1) (omega arith)
+    state-full (s .args .top) (s .args .b .now) _ (c .before .before .short-sum .ensures) (omega arith) (omega arith) (s .pre .1) (omega arith)
 
 shape-of-requires : tie.Need-shape-of-requires
 shape-of-requires c κs = search needs
@@ -37,7 +37,7 @@ returns-3 c =
     let f = c .before .before in
     let w = f .before .before .before in
     let s = w .before .before in
-    state-rises (s .args .top) (s .args .b .now) _ (w .weight-of .ensures) (omega arith) (omega arith) (s .pre .1) (λ e. omega arith) (λ e. omega arith)
+    state-rises (s .args .top) (s .args .b .now) _ (w .short-sum .ensures) (omega arith) (omega arith) (s .pre .1) (λ e. omega arith) (λ e. omega arith)
     _ (f .shape-of .ensures) (λ e. omega arith)
 
 returns-4 : tie.Need-returns-4
@@ -45,7 +45,7 @@ returns-4 c =
     let f = c .before .before .before .before in
     let w = f .before .before .before in
     let s = w .before .before in
-    state-middles (s .args .top) (s .args .b .now) _ (w .weight-of .ensures) (omega arith) (omega arith) (s .pre .1) (λ e. omega arith) (λ e. omega arith)
+    state-middles (s .args .top) (s .args .b .now) _ (w .short-sum .ensures) (omega arith) (omega arith) (s .pre .1) (λ e. omega arith) (λ e. omega arith)
     _ (f .shape-of .ensures) (omega arith)
 
 cast-t6 : tie.Need-cast-t6
@@ -56,14 +56,14 @@ returns-5 c =
     let f = c .before .before .before .before .before in
     let w = f .before .before .before in
     let s = w .before .before in
-    state-active (s .args .top) (s .args .b .now) _ (w .weight-of .ensures) (omega arith) (omega arith) (s .pre .1) (λ e. omega arith) (λ e. omega arith)
+    state-active (s .args .top) (s .args .b .now) _ (w .short-sum .ensures) (omega arith) (omega arith) (s .pre .1) (λ e. omega arith) (λ e. omega arith)
     _ (f .shape-of .ensures) (omega arith) (omega arith)
 
 pub state-of-spec : {M : Type 1} → statement M
 state-of-spec =
     tie.close
     (tie.spec
-    weight-of-requires
+    short-sum-requires
     returns
     mul-if2
     returns-2

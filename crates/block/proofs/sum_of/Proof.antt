@@ -16,6 +16,12 @@ Inv-loop s total₀ i₀ total i = (i ≤ length s) × (total ≡ sum (take i s)
 abbrev μ-loop : tie.MeasureT-loop
 μ-loop s total₀ i₀ total i = length s - i
 
+short-sum-requires : tie.Need-short-sum-requires Inv-loop μ-loop
+short-sum-requires c κs = search needs
+
+returns : tie.Need-returns Inv-loop μ-loop
+returns c = c .short-sum .ensures
+
 loop-holds : tie.Need-loop-holds Inv-loop μ-loop
 loop-holds c = search needs
 
@@ -23,10 +29,10 @@ shared-slice-read-total : tie.Need-shared-slice-read-total Inv-loop μ-loop
 shared-slice-read-total c = search needs
 
 cast-total : tie.Need-cast-total Inv-loop μ-loop
-cast-total c = omega (arith, c .shared-slice-known .given (c .before .before .loop .i))
+cast-total c = omega (arith, c .shared-slice-known2 .given (c .before .before .loop .i))
 
 add-total : tie.Need-add-total Inv-loop μ-loop
-add-total c = omega (arith, c .shared-slice-known .given (c .before .before .loop .i))
+add-total c = omega (arith, c .shared-slice-known2 .given (c .before .before .loop .i))
 
 add-i : tie.Need-add-i Inv-loop μ-loop
 add-i c = search needs
@@ -36,14 +42,14 @@ loop-less c = search needs
 
 loop-again : tie.Need-loop-again Inv-loop μ-loop
 loop-again c =
-    omega (arith, c .shared-slice-known .given (c .before .before .loop .i), sum-take (c .before .before .before .args .s .now) (c .before .before .loop .i) (c .before .loop-test .taken))
+    omega (arith, c .shared-slice-known2 .given (c .before .before .loop .i), sum-take (c .before .before .before .before .before .args .s .now) (c .before .before .loop .i) (c .before .loop-test .taken))
 
 cast-result : tie.Need-cast-result Inv-loop μ-loop
 cast-result c = search needs
 
-returns : tie.Need-returns Inv-loop μ-loop
-returns c =
-    c .before .loop .inv .1 ∙ simp (take-all (c .before .loop .i) (c .before .before .args .s .now) (c .loop-test .left))
+returns-2 : tie.Need-returns-2 Inv-loop μ-loop
+returns-2 c =
+    c .before .loop .inv .1 ∙ simp (take-all (c .before .loop .i) (c .before .before .before .before .args .s .now) (c .loop-test .left))
 
 pub sum-of-spec : {M : Type 1} → statement M
 sum-of-spec =
@@ -51,6 +57,8 @@ sum-of-spec =
     (tie.spec
     Inv-loop
     μ-loop
+    short-sum-requires
+    returns
     loop-holds
     shared-slice-read-total
     cast-total
@@ -59,4 +67,4 @@ sum-of-spec =
     loop-less
     loop-again
     cast-result
-    returns)
+    returns-2)

@@ -1,4 +1,4 @@
--- `block::weight_of` meets its contract: the total is the sum of the cells passed. Assumes nothing.
+-- `block::short_sum` meets its contract: the total is the sum of the cells passed. Assumes nothing.
 use mathlib.Core.Path.{_≡_, _∙_}
 use Prim.Native.Nat.{_≤_, _*_, _-_}
 use native.Mathlib.Omega.{arith}
@@ -7,14 +7,14 @@ use lib.ListN.{length, take}
 use lib.Seq.{take-all}
 use Rattle.block.specs.Laws.{sum-take}
 use Rattle.rules.specs.Cells.{sum}
-use Rattle.block.proofs.weight_of.Statement.{statement}
-use Rattle.block.proofs.weight_of.Tie as tie
+use Rattle.block.proofs.short_sum.Statement.{statement}
+use Rattle.block.proofs.short_sum.Tie as tie
 
 abbrev Inv-loop : tie.InvT-loop
-Inv-loop b total₀ i₀ total i = (i ≤ length b) × (total ≡ sum (take i b)) × (total ≤ 255 * i)
+Inv-loop s total₀ i₀ total i = (i ≤ length s) × (total ≡ sum (take i s)) × (total ≤ 255 * i)
 
 abbrev μ-loop : tie.MeasureT-loop
-μ-loop b total₀ i₀ total i = length b - i
+μ-loop s total₀ i₀ total i = length s - i
 
 loop-holds : tie.Need-loop-holds Inv-loop μ-loop
 loop-holds c = search needs
@@ -36,17 +36,17 @@ loop-less c = search needs
 
 loop-again : tie.Need-loop-again Inv-loop μ-loop
 loop-again c =
-    omega (arith, c .shared-slice-known .given (c .before .before .loop .i), sum-take (c .before .before .before .args .b .now) (c .before .before .loop .i) (c .before .loop-test .taken))
+    omega (arith, c .shared-slice-known .given (c .before .before .loop .i), sum-take (c .before .before .before .args .s .now) (c .before .before .loop .i) (c .before .loop-test .taken))
 
 cast-result : tie.Need-cast-result Inv-loop μ-loop
 cast-result c = search needs
 
 returns : tie.Need-returns Inv-loop μ-loop
 returns c =
-    c .before .loop .inv .1 ∙ simp (take-all (c .before .loop .i) (c .before .before .args .b .now) (c .loop-test .left))
+    c .before .loop .inv .1 ∙ simp (take-all (c .before .loop .i) (c .before .before .args .s .now) (c .loop-test .left))
 
-pub weight-of-spec : {M : Type 1} → statement M
-weight-of-spec =
+pub short-sum-spec : {M : Type 1} → statement M
+short-sum-spec =
     tie.close
     (tie.spec
     Inv-loop
