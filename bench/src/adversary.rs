@@ -1,7 +1,7 @@
 //! An adversary who reads the sheet: before each move of a staged sheet it sets the other bits so
 //! that the move raises as many levels for nothing as it finds.
 
-use crate::foreign::Compiled;
+use crate::compiled::Compiled;
 use crate::places::stage;
 use second::Settings;
 

@@ -2,7 +2,7 @@
 
 use crate::adversary;
 use crate::bits::Bits;
-use crate::foreign::Compiled;
+use crate::compiled::Compiled;
 use crate::measured::Measured;
 use crate::places::both_kinds;
 use second::Settings;

@@ -1,6 +1,6 @@
 //! One call, to be done again and again by the library, by the second program or as a bare pass.
 
-use crate::foreign::{Compiled, Reply};
+use crate::compiled::{Compiled, Reply};
 use second::{Answer, Settings};
 use std::hint::black_box;
 

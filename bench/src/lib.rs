@@ -4,9 +4,9 @@
 
 pub mod adversary;
 pub mod bits;
+pub mod compiled;
 pub mod count;
 pub mod endurance;
-pub mod foreign;
 pub mod job;
 pub mod measured;
 pub mod moves;

@@ -1,7 +1,7 @@
 //! What was measured of endurance: held to the guarantee, as a file and as a table.
 
+use crate::compiled::Compiled;
 use crate::endurance::limit;
-use crate::foreign::Compiled;
 use crate::places::{kind_name, settings};
 use crate::table::{grouped, Table};
 use second::Settings;

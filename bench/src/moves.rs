@@ -1,7 +1,7 @@
 //! Moves to a later stage, and the answer Erase, on the sheets that runs of changes come to.
 
 use crate::bits::Bits;
-use crate::foreign::Compiled;
+use crate::compiled::Compiled;
 use crate::job::Job;
 use crate::places::{both_kinds, stage, SHAPES};
 use crate::table::{cells, heads, name, Table};

@@ -1,7 +1,7 @@
 //! Whole runs from an erased sheet to the first Erase with random bits: the time of a change.
 
 use crate::bits::Bits;
-use crate::foreign::Compiled;
+use crate::compiled::Compiled;
 use crate::job::bare;
 use crate::places::both_kinds;
 use crate::slowest::slowest;

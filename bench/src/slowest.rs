@@ -1,6 +1,6 @@
 //! The slowest single change of a run by the library.
 
-use crate::foreign::Compiled;
+use crate::compiled::Compiled;
 use crate::job::Job;
 use crate::places::stage;
 use crate::table::grouped;
