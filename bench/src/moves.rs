@@ -2,7 +2,7 @@
 
 use crate::bits::Bits;
 use crate::compiled::Compiled;
-use crate::job::Job;
+use crate::job::{Call, Job};
 use crate::places::{both_kinds, stage, SHAPES};
 use crate::table::{cells, heads, name, Table};
 use crate::timing::time;
@@ -24,34 +24,71 @@ struct Move {
     /// The stage after it, or none where it is answered Erase.
     to: Option<usize>,
     job: Job,
+    /// The sheet after it.
+    after: Vec<u8>,
 }
 
-/// The table of all moves, measured now.
-pub fn print() {
-    let numbers = heads("ns");
-    let mut all = vec!["settings", "run", "from stage", "to stage"];
-    all.extend(numbers.iter().map(|head| &**head));
-    let mut table = Table::new(&all, 4);
-    for settings in both_kinds(&SHAPES) {
-        let mut seen = Vec::new();
-        for (bits, run) in RUNS.into_iter().filter(|_| settings.kind == 1) {
-            for Move { from, to, job } in moves(&settings, bits) {
-                if seen.contains(&(from, to)) {
-                    continue;
+/// The moves of all runs, each pair of stages once, with their settings and run.
+fn all_moves() -> Vec<(Settings, &'static str, Move)> {
+    let mut all: Vec<(Settings, &'static str, Move)> = Vec::new();
+    for settings in both_kinds(&SHAPES)
+        .into_iter()
+        .filter(|settings| settings.kind == 1)
+    {
+        let first = all.len();
+        for (bits, run) in RUNS {
+            for found in moves(&settings, bits) {
+                let same =
+                    |(_, _, other): &(_, _, Move)| (other.from, other.to) == (found.from, found.to);
+                if !all[first..].iter().any(same) {
+                    all.push((settings, run, found));
                 }
-                seen.push((from, to));
-                let to = to.map_or("Erase".into(), |to| to.to_string());
-                let words = [name(&settings), run.into(), from.to_string(), to];
-                table.row(
-                    words
-                        .into_iter()
-                        .chain(cells(&time(&job, ROUNDS)))
-                        .collect(),
-                );
             }
         }
     }
-    println!("{table}");
+    all
+}
+
+/// A table with so many words before its figures.
+fn table(words: &[&str]) -> Table {
+    let numbers = heads("ns");
+    let all: Vec<&str> = words
+        .iter()
+        .copied()
+        .chain(numbers.iter().map(|head| &**head))
+        .collect();
+    Table::new(&all, words.len())
+}
+
+/// The table of all moves, and that of the calls on the sheets that they leave, measured now.
+pub fn print() {
+    let mut made = table(&["settings", "run", "from stage", "to stage"]);
+    let mut after = table(&["settings", "stage", "call"]);
+    for (settings, run, found) in all_moves() {
+        let to = found.to.map_or("Erase".into(), |to| to.to_string());
+        let words = [
+            name(&settings),
+            run.into(),
+            found.from.to_string(),
+            to.clone(),
+        ];
+        let figures = cells(&time(&found.job, ROUNDS));
+        made.row(words.into_iter().chain(figures).collect());
+        if found.to.is_none() {
+            continue;
+        }
+        for (call, title) in [(Call::Read, "reading"), (Call::Change, "change")] {
+            let job = Job::new(&settings, found.after.clone(), call);
+            let words = [name(&settings), to.clone(), title.into()];
+            after.row(
+                words
+                    .into_iter()
+                    .chain(cells(&time(&job, ROUNDS)))
+                    .collect(),
+            );
+        }
+    }
+    println!("**The move**\n\n{made}\n**A reading and a change on the sheet after it**\n\n{after}");
 }
 
 /// The moves of one run from an erased sheet to the first Erase, and that Erase.
@@ -65,8 +102,13 @@ fn moves(settings: &Settings, bits: Bits) -> Vec<Move> {
         let job = || Job::change(settings, before.clone(), bit, reply.answer);
         if reply.answer != 0 {
             assert_eq!(reply.answer, 7, "a run ends with Erase");
-            let (to, job) = (None, job());
-            moves.push(Move { from, to, job });
+            let (to, job, after) = (None, job(), sheet);
+            moves.push(Move {
+                from,
+                to,
+                job,
+                after,
+            });
             break;
         }
         // A move writes the numbers 1 to k: it raises more than one level.
@@ -77,6 +119,7 @@ fn moves(settings: &Settings, bits: Bits) -> Vec<Move> {
                 from,
                 to: Some(to),
                 job,
+                after: sheet.clone(),
             });
             from = to;
         }
