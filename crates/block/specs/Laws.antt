@@ -1,4 +1,4 @@
--- Laws of sums, of the greatest and the least level, of the first cell above a level, of cells that are all 0, and of the sheet from a block on. Assumes nothing.
+-- Laws of sums, of the greatest and the least level, of the first cell above a level, of cells that are all 0, of cells filled one by one, and of the sheet from a block on. Assumes nothing.
 use mathlib.Core.Bool.{true, false}
 use mathlib.Core.List.{List, [], _∷_, _++_, append-nil}
 use mathlib.Core.Path.{_≡_, _∙_, ap, ap₂, refl, subst, sym}
@@ -8,8 +8,8 @@ use native.Mathlib.Numerals.{add-one}
 use native.Mathlib.Omega.{arith}
 use borrow.Author.Tests.{eq-eqb, ne-eqb}
 use lib.Dec.{eqb}
-use lib.ListN.{length, getD, take, drop, replicate, length-drop, drop-of-length-le}
-use lib.Seq.{take-suc, take-all, drop-drop}
+use lib.ListN.{length, getD, take, drop, replicate, set, length-drop, drop-of-length-le, replicate-append-replicate}
+use lib.Seq.{take-suc, take-suc-set, take-all, drop-drop}
 use Rattle.laws.specs.Lists.{low-all, low-at, sum-part}
 use Rattle.rules.specs.Calls.{levelCheck}
 use Rattle.rules.specs.Cells.{Low, block, firstAbove, same?, store, sum}
@@ -126,6 +126,15 @@ all-zero-is s =
     pick-elim (λ b. eqb (greatestOf s) 0 ≡ b) (same? s (replicate (length s) 0)) true false
     (λ e. eq-eqb (greatestOf s) 0 (ap greatestOf e ∙ zero-greatest (length s)))
     (λ n. ne-eqb (greatestOf s) 0 (λ e. n (greatest-zero s e)))
+
+-- ---- cells filled one by one
+
+pub fill-turn : (b : List ℕ) (i v : ℕ) → i < length b → take i b ≡ replicate i v → take (i + 1) (set b i v) ≡ replicate (i + 1) v
+fill-turn b i v h e =
+    ap (λ (n : ℕ). take n (set b i v)) (add-one i)
+    ∙ take-suc-set b i v h
+    ∙ ap (λ (r : List ℕ). r ++ (v ∷ [])) e
+    ∙ replicate-append-replicate i 1 v
 
 -- ---- the sheet from block j on
 

@@ -110,6 +110,17 @@ fn room_above(s: &[u8]) -> u8
     best
 }
 
+// Every cell set to one level.
+pub fn fill(b: &mut [u8], level: u8)
+    ensures { λ _. ⌜ now (b .exit) ≡ replicate (length (now (b .entry))) level ⌝ }
+{
+    let mut i: usize = 0;
+    while i < b.len() {
+        b[i] = level;
+        i += 1;
+    }
+}
+
 // The first cell above the top level; its place is looked for only if the greatest level is above it.
 pub fn first_above(s: &[u8], top: u8) -> Level
     ensures { λ r. ⌜ asFound r ≡ firstAbove top (now (s .entry)) ⌝ }

@@ -1,12 +1,10 @@
 -- The move is the rules' move: the sheet after it is the one that the rules write. Assumes nothing.
-use mathlib.Core.List.{List, _∷_, _++_, map}
+use mathlib.Core.List.{List, _++_, map}
 use mathlib.Core.Path.{_≡_, _∙_, ap, ap₂, refl, sym}
-use Prim.Native.Nat.{ℕ, zero, suc, _+_, _-_, _*_, _^_, _≤_, _<_}
-use native.Mathlib.Nat.{pow-suc}
+use Prim.Native.Nat.{ℕ, _+_, _-_, _*_, _^_, _<_}
 use native.Mathlib.Omega.{arith}
 use lib.ListN.{length, take, drop, replicate}
-use lib.Pow.{pow-add}
-use lib.Seq.{drop-drop, take-take}
+use lib.Seq.{drop-drop}
 use Rattle.laws.specs.Live.{live}
 use Rattle.laws.specs.Splice.{drop-take}
 use Rattle.rules.specs.Batches.{batchCells, entryCells, write}

@@ -11,10 +11,10 @@ ghost use Rattle.rules.specs.Search.{pick};
 ghost use Rattle.rules.specs.Stage.{recorded, index, closed};
 ghost use Rattle.rules.specs.Batches.{entryCells};
 ghost use Rattle.moving.specs.Meaning.{Apart, Roomy, parityCells, recordedAt, liveAt, moved};
+use block::fill;
 use block::past_run;
 use block::run_blocks;
 use block::sum_of;
-use staged::fill;
 use staged::raise_one;
 use staged::set_index;
 

@@ -5,6 +5,7 @@ mod layout;
 mod within;
 
 use block::Level;
+use block::fill;
 use block::first_above;
 use plain::write_bits;
 use rules::Answer;
@@ -57,7 +58,7 @@ pub fn erase(settings: Settings, sheet: &mut [u8]) -> Answer
     if let Check::Refuse(answer) = check_size(settings, sheet.len()) {
         return answer;
     }
-    staged::fill(sheet, 0);
+    fill(sheet, 0);
     Answer::Done(settings.guarantee())
 }
 

@@ -4,11 +4,11 @@ use mathlib.Core.List.{List, [], _++_, _∷_, append-assoc, append-nil}
 use mathlib.Core.Path.{_∙_, _≡_, ap, ap₂, refl, subst, sym}
 use Prim.Native.Nat.{_%_, _*_, _+_, _-_, _/_, _<_, _^_, _≤_, suc, zero, ℕ}
 use native.Mathlib.Decide.{decLe, decLt}
-use native.Mathlib.Nat.{div-add-mod', div-lt-iff-lt-mul, le-of-suc-le-suc, mod-lt, mul-le-mul-left, mul-le-mul-right, not-suc-le-zero, pow-le-pow-right, pow-suc, pow-zero}
+use native.Mathlib.Nat.{div-add-mod', div-lt-iff-lt-mul, le-of-suc-le-suc, mod-lt, mul-le-mul-left, not-suc-le-zero, pow-le-pow-right, pow-suc, pow-zero}
 use native.Mathlib.Numerals.{add-one}
 use native.Mathlib.Omega.{arith}
-use lib.ListN.{drop, getD, length, length-append, length-replicate, replicate, replicate-append-replicate, set, take}
-use lib.Seq.{drop-drop, drop-length, length-take-le, take-suc, take-suc-set}
+use lib.ListN.{drop, getD, length, length-append, length-replicate, replicate, set, take}
+use lib.Seq.{drop-drop, drop-length, length-take-le, take-suc}
 use Rattle.laws.specs.Index.{digits-low, digits-num, length-digits, num-digits, num-full, num-lt, pow-pos′}
 use Rattle.laws.specs.Lists.{low-append, low-replicate, low-take, sum-replicate}
 use Rattle.laws.specs.Live.{count-full, run-keeps}
@@ -121,15 +121,6 @@ digits-first q u b = sym (ap (λ (r : List ℕ). digits q (length b) u ++ r) (dr
 pub digits-last : (q u : ℕ) (b : List ℕ) → digits q 0 u ++ drop 0 b ≡ b
 unfolding digits
 digits-last q u b = refl
-
--- ---- cells filled one by one
-
-pub fill-turn : (b : List ℕ) (i v : ℕ) → i < length b → take i b ≡ replicate i v → take (i + 1) (set b i v) ≡ replicate (i + 1) v
-fill-turn b i v h e =
-    ap (λ (n : ℕ). take n (set b i v)) (add-one i)
-    ∙ take-suc-set b i v h
-    ∙ ap (λ (r : List ℕ). r ++ (v ∷ [])) e
-    ∙ replicate-append-replicate i 1 v
 
 -- ---- a block as a part of the cells, from j times w to j times w + w
 

@@ -1,7 +1,7 @@
 // The leaves of a staged sheet: index blocks, the stage, parity blocks and the search for a later stage. Assumes nothing.
 ghost use mathlib.Core.Path.{_≡_};
 ghost use Prim.Native.Nat.{suc, _+_, _-_, _*_, _^_, _≤_, _<_};
-ghost use lib.ListN.{length, replicate};
+ghost use lib.ListN.{length};
 ghost use Rattle.rules.specs.Cells.{Low, block, store, chop};
 ghost use Rattle.rules.specs.Stage.{raise, liveWeights};
 ghost use Rattle.rules.specs.Staged.{parityLength};
@@ -50,17 +50,6 @@ pub fn set_index(b: &mut [u8], top: u8, u: usize)
         i -= 1;
         b[i] = (rest % base) as u8;
         rest /= base;
-    }
-}
-
-// Every cell set to one level.
-pub fn fill(b: &mut [u8], level: u8)
-    ensures { λ _. ⌜ now (b .exit) ≡ replicate (length (now (b .entry))) level ⌝ }
-{
-    let mut i: usize = 0;
-    while i < b.len() {
-        b[i] = level;
-        i += 1;
     }
 }
 

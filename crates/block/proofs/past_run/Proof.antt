@@ -1,6 +1,6 @@
 -- `block::past_run` meets its contract: every block passed over weighs what the level says. Assumes nothing.
 use mathlib.Core.Path.{_≡_, subst}
-use Prim.Native.Nat.{_*_, _+_, _-_, _/_, _≤_}
+use Prim.Native.Nat.{_*_, _+_, _-_, _≤_}
 use native.Mathlib.Nat.{div-le-self, div-mul-le-self, le-mul-of-pos-right, le-refl, mul-le-mul-right}
 use native.Mathlib.Omega.{arith}
 use Rattle.block.specs.RunLaws.{past-more, past-none}

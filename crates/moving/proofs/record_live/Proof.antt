@@ -7,7 +7,6 @@ use borrow.Author.Needs.{needs}
 use Rattle.moving.proofs.record_live.Statement.{statement}
 use Rattle.moving.proofs.record_live.Tie as tie
 
--- src/lib.rt:89:9
 returns : tie.Need-returns
 returns c =
     let o = c .before .before in
@@ -16,27 +15,21 @@ returns c =
       free-sum (a .a) (a .len) (a .b) (a .w) (a .top) (a .live) (a .k) (a .t9) (a .sheet .now) (o .pre .0 .2) (c .if1 .taken),
     )
 
--- src/lib.rt:91:44
 add-record-value : tie.Need-add-record-value
 add-record-value c = search needs
 
--- src/lib.rt:91:54
 mul-record-value : tie.Need-mul-record-value
 mul-record-value c = search needs
 
--- src/lib.rt:91:54
 array-read-record-value : tie.Need-array-read-record-value
 array-read-record-value c = search needs
 
--- src/lib.rt:91:5
 record-value-requires : tie.Need-record-value-requires
 record-value-requires c κs = search needs
 
--- src/lib.rt:82:1
 same-length : tie.Need-same-length
 same-length c = search needs
 
--- src/lib.rt:82:1
 returns-2 : tie.Need-returns-2
 returns-2 c =
     let o = c .before .before .before .before .before .before in

@@ -11,21 +11,17 @@ use Rattle.moving.specs.Laws.{recorded-other, recorded-same}
 use Rattle.moving.proofs.record_parity.Statement.{statement}
 use Rattle.moving.proofs.record_parity.Tie as tie
 
--- src/lib.rt:38:9
 returns : tie.Need-returns
 returns c =
     let a = c .before .before .args in
     (recorded-same (a .top) (a .value) (a .weight) (a .b .now) (c .before .before .pre .1) (c .if1 .taken), omega arith)
 
--- src/lib.rt:40:5
 raise-one-requires : tie.Need-raise-one-requires
 raise-one-requires c κs = search needs
 
--- src/lib.rt:32:1
 same-length : tie.Need-same-length
 same-length c = search needs
 
--- src/lib.rt:32:1
 returns-2 : tie.Need-returns-2
 returns-2 c =
     let o = c .before .before .before .before in

@@ -10,39 +10,30 @@ use Rattle.moving.specs.RecordLaws.{after-small, block-asks, full-small,
 use Rattle.moving.proofs.record_value.Statement.{statement}
 use Rattle.moving.proofs.record_value.Tie as tie
 
--- src/lib.rt:62:13
 add-e : tie.Need-add-e
 add-e c = search needs
 
--- src/lib.rt:63:25
 sub-sum-of : tie.Need-sub-sum-of
 sub-sum-of c = search needs
 
--- src/lib.rt:63:25
 part-sum-of-start : tie.Need-part-sum-of-start
 part-sum-of-start c = search needs
 
--- src/lib.rt:63:25
 part-sum-of-end : tie.Need-part-sum-of-end
 part-sum-of-end c = search needs
 
--- src/lib.rt:63:9
 sum-of-requires : tie.Need-sum-of-requires
 sum-of-requires c κs = search needs
 
--- src/lib.rt:64:32
 sub-record-parity : tie.Need-sub-record-parity
 sub-record-parity c = search needs
 
--- src/lib.rt:64:32
 part-record-parity-start : tie.Need-part-record-parity-start
 part-record-parity-start c = search needs
 
--- src/lib.rt:64:32
 part-record-parity-end : tie.Need-part-record-parity-end
 part-record-parity-end c = search needs
 
--- src/lib.rt:64:9
 record-parity-requires : tie.Need-record-parity-requires
 record-parity-requires c κs =
     let o = c .before .before .before .before .before in
@@ -50,7 +41,6 @@ record-parity-requires c κs =
     let q : a .a + a .len - a .a ≡ a .len = omega arith in
     rw q (block-asks (a .a) (a .len) (a .b) (a .w) (a .top) (a .sheet .now) (o .pre .0) (o .pre .1) (c .before .sum-of .result) (rw q at (c .before .sum-of .ensures)) (o .pre .2))
 
--- src/lib.rt:65:17
 add-after : tie.Need-add-after
 add-after c =
     let r = c .before .before .record-parity in
@@ -64,29 +54,23 @@ add-after c =
           (rw q at (t .ensures)) (rw q at (r .ensures .0)) (rw q at (r .ensures .1)),
     )
 
--- src/lib.rt:66:15
 add-end : tie.Need-add-end
 add-end c = search needs
 
--- src/lib.rt:67:17
 sub-write-index : tie.Need-sub-write-index
 sub-write-index c = search needs
 
--- src/lib.rt:67:17
 part-write-index-start : tie.Need-part-write-index-start
 part-write-index-start c = search needs
 
--- src/lib.rt:67:17
 part-write-index-end : tie.Need-part-write-index-end
 part-write-index-end c = search needs
 
--- src/lib.rt:67:57
 mul-write-index : tie.Need-mul-write-index
 mul-write-index c =
     let o = c .before .before .before .before .before .before .before .before .before in
     omega (arith, full-small (o .args .len) (o .args .top) (omega arith) (omega arith))
 
--- src/lib.rt:67:5
 write-index-requires : tie.Need-write-index-requires
 write-index-requires c κs =
     let o = c .before .before .before .before .before .before .before .before .before in
@@ -95,11 +79,9 @@ write-index-requires c κs =
     let p : a .b + a .w - a .b ≡ a .w = omega arith in
     rw (q, p) (index-asks (a .a) (a .len) (a .b) (a .w) (a .top) (a .sheet .now) (o .pre .0) (a .number) (a .value) (c .before .before .before .record-parity .last .0) (rw q at (c .before .before .before .record-parity .ensures .0)) (o .pre .3))
 
--- src/lib.rt:57:1
 same-length : tie.Need-same-length
 same-length c = search needs
 
--- src/lib.rt:57:1
 returns : tie.Need-returns
 returns c =
     let r = c .before .before .before .before .before .before .record-parity in

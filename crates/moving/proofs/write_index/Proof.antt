@@ -9,30 +9,24 @@ use Rattle.rules.specs.Stage.{closed, index}
 use Rattle.moving.proofs.write_index.Statement.{statement}
 use Rattle.moving.proofs.write_index.Tie as tie
 
--- src/lib.rt:50:9
 fill-requires : tie.Need-fill-requires
 fill-requires c κs = search needs
 
--- src/lib.rt:51:9
 same-length : tie.Need-same-length
 same-length c = search needs
 
--- src/lib.rt:51:9
 returns : tie.Need-returns
 returns c =
     let o = c .before .before .before .before in
     let a = o .before .before .args in
     c .before .before .fill .ensures ∙ ap (entryCells (a .top) (length (a .b .now))) (sym (pick-yes (ℕ-discrete (a .weight) (a .full)) closed (index (a .number)) (o .if1 .taken)))
 
--- src/lib.rt:53:5
 set-index-requires : tie.Need-set-index-requires
 set-index-requires c κs = search needs
 
--- src/lib.rt:45:1
 same-length-2 : tie.Need-same-length-2
 same-length-2 c = search needs
 
--- src/lib.rt:45:1
 returns-2 : tie.Need-returns-2
 returns-2 c =
     let o = c .before .before .before .before in

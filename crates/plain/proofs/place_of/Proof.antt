@@ -5,34 +5,25 @@ use borrow.Author.Needs.{needs}
 use Rattle.plain.specs.Laws.{place-empty, place-none, place-own}
 use Rattle.plain.proofs.place_of.Statement.{statement}
 use Rattle.plain.proofs.place_of.Tie as tie
-use Rattle.plain.proofs.place_of.Reads as reads
-use Rattle.plain.proofs.place_of.Lts as lts
 
--- src/lib.rt:72:15
 mul-own : tie.Need-mul-own
 mul-own c = search needs
 
--- src/lib.rt:72:15
 element-copy-out-own : tie.Need-element-copy-out-own
 element-copy-out-own c = search needs
 
--- src/lib.rt:74:31
 mul-t11 : tie.Need-mul-t11
 mul-t11 c = search needs
 
--- src/lib.rt:74:31
 element-copy-out-t14 : tie.Need-element-copy-out-t14
 element-copy-out-t14 c = search needs
 
--- src/lib.rt:74:9
 returns : tie.Need-returns
 returns c = let a = c .before .before .before .args in sym (place-own (a .t1) (a .bit) (a .m) (omega arith))
 
--- src/lib.rt:77:9
 returns-2 : tie.Need-returns-2
 returns-2 c = let a = c .before .before .before .args in sym (place-empty (a .t1) (a .bit) (a .m) (λ h. omega arith) (omega arith))
 
--- src/lib.rt:68:1
 returns-3 : tie.Need-returns-3
 returns-3 c = let a = c .before .before .before .args in sym (place-none (a .t1) (a .bit) (a .m) (λ h. omega arith) (λ h. omega arith))
 

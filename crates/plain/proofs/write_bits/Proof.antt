@@ -10,8 +10,6 @@ use Rattle.plain.specs.Laws.{parities-set, parities-sum}
 use Rattle.plain.specs.Meaning.{parities}
 use Rattle.plain.proofs.write_bits.Statement.{statement}
 use Rattle.plain.proofs.write_bits.Tie as tie
-use Rattle.plain.proofs.write_bits.Reads as reads
-use Rattle.plain.proofs.write_bits.Lts as lts
 
 abbrev Inv-loop : tie.InvT-loop
 Inv-loop out₀ k weights ones₀ i₀ out ones i = (i ≤ k) × (ones ≤ i) × (ones ≡ sum (parities i weights)) × (length out ≡ length out₀) × (out ≡ parities i weights ++ drop i out₀)
@@ -19,39 +17,30 @@ Inv-loop out₀ k weights ones₀ i₀ out ones i = (i ≤ k) × (ones ≤ i) ×
 abbrev μ-loop : tie.MeasureT-loop
 μ-loop out₀ k weights ones₀ i₀ out ones i = k - i
 
--- src/lib.rt:90:5
 loop-holds : tie.Need-loop-holds Inv-loop μ-loop
 loop-holds c = search needs
 
--- src/lib.rt:91:21
 mul-value : tie.Need-mul-value Inv-loop μ-loop
 mul-value c = search needs
 
--- src/lib.rt:91:21
 array-read-value : tie.Need-array-read-value Inv-loop μ-loop
 array-read-value c = search needs
 
--- src/lib.rt:92:18
 cast-out : tie.Need-cast-out Inv-loop μ-loop
 cast-out c = search needs
 
--- src/lib.rt:92:9
 slice-write-out : tie.Need-slice-write-out Inv-loop μ-loop
 slice-write-out c = search needs
 
--- src/lib.rt:93:9
 add-ones : tie.Need-add-ones Inv-loop μ-loop
 add-ones c = search needs
 
--- src/lib.rt:94:9
 add-i : tie.Need-add-i Inv-loop μ-loop
 add-i c = search needs
 
--- src/lib.rt:90:5
 loop-less : tie.Need-loop-less Inv-loop μ-loop
 loop-less c = search needs
 
--- src/lib.rt:90:5
 loop-again : tie.Need-loop-again Inv-loop μ-loop
 loop-again c =
     let l = c .before in
@@ -64,11 +53,9 @@ loop-again c =
       ap (λ z. set z (l .loop .i) (getD (a .t3) (l .loop .i) 0 % 2)) (l .loop .inv .4) ∙ parities-set (l .loop .i) (a .t3) (a .out .now) h,
     )
 
--- src/lib.rt:83:1
 same-length : tie.Need-same-length Inv-loop μ-loop
 same-length c = search needs
 
--- src/lib.rt:83:1
 returns : tie.Need-returns Inv-loop μ-loop
 returns c =
     let l = c .before in

@@ -12,10 +12,6 @@ use Rattle.staged.specs.Laws.{count-past}
 use borrow.Author.Needs.{needs}
 use Rattle.staged.proofs.count_live.Statement.{statement}
 use Rattle.staged.proofs.count_live.Tie as tie
-use Rattle.staged.proofs.count_live.Reads as reads
-use Rattle.staged.proofs.count_live.Lts as lts
-use Rattle.block.proofs.sum_of.Reads as sum-of-reads
-use Rattle.block.proofs.past_run.Reads as past-run-reads
 
 abbrev Inv-loop : tie.InvT-loop
 Inv-loop cells len count top step full live₀ j₀ live j = (j ≤ count) × (live ≡ length (liveWeights (len * top) (chop len j cells))) × (live ≤ j)

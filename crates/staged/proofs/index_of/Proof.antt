@@ -11,8 +11,6 @@ use Rattle.rules.specs.Stage.{index}
 use Rattle.staged.specs.Laws.{entry-full, entry-number, number-lt, number-none, number-take, power-le, power-one}
 use Rattle.staged.proofs.index_of.Statement.{statement}
 use Rattle.staged.proofs.index_of.Tie as tie
-use Rattle.staged.proofs.index_of.Reads as reads
-use Rattle.staged.proofs.index_of.Lts as lts
 
 abbrev Inv-loop : tie.InvT-loop
 Inv-loop b top base number₀ power₀ i₀ count power i = (i ≤ length b) × (count ≡ number (suc top) (take i b)) × (power ≡ suc top ^ i)
@@ -41,49 +39,38 @@ module _ (c : tie.In-loop Inv-loop μ-loop) where
       let a = c .before .before .args in
       omega (arith, power-le (a .top) (c .before .loop .i + 1) (length (a .b .now)) (omega arith))
 
--- src/lib.rt:24:16
 add-base : tie.Need-add-base Inv-loop μ-loop
 add-base c = search needs
 
--- src/lib.rt:28:5
 loop-holds : tie.Need-loop-holds Inv-loop μ-loop
 loop-holds c =
     let z : suc (c .args .top) ^ 0 ≡ 1 = pow-zero (suc (c .args .top)) in
     (omega arith, number-none (suc (c .args .top)), sym z)
 
--- src/lib.rt:29:18
 mul-number : tie.Need-mul-number Inv-loop μ-loop
 mul-number c = omega (arith, more c, less c, small c)
 
--- src/lib.rt:29:34
 shared-slice-read-number : tie.Need-shared-slice-read-number Inv-loop μ-loop
 shared-slice-read-number c = search needs
 
--- src/lib.rt:29:34
 cast-number : tie.Need-cast-number Inv-loop μ-loop
 cast-number c = omega (arith, c .shared-slice-known .given (c .before .before .loop .i))
 
--- src/lib.rt:29:18
 add-number : tie.Need-add-number Inv-loop μ-loop
 add-number c = omega (arith, more (c .before), less (c .before), small (c .before))
 
--- src/lib.rt:30:9
 mul-power : tie.Need-mul-power Inv-loop μ-loop
 mul-power c = omega (arith, power (c .before), small (c .before))
 
--- src/lib.rt:31:9
 add-i : tie.Need-add-i Inv-loop μ-loop
 add-i c = search needs
 
--- src/lib.rt:28:5
 loop-less : tie.Need-loop-less Inv-loop μ-loop
 loop-less c = search needs
 
--- src/lib.rt:28:5
 loop-again : tie.Need-loop-again Inv-loop μ-loop
 loop-again c = (omega arith, omega (arith, more (c .before)), omega (arith, power (c .before)))
 
--- src/lib.rt:33:8
 add-if1 : tie.Need-add-if1 Inv-loop μ-loop
 add-if1 c =
     let a = c .before .before .args in
@@ -100,13 +87,11 @@ whole c =
     let e : l .i ≡ length (a .b .now) = omega arith in
     (l .inv .1 ∙ simp (take-all (l .i) (a .b .now) (c .loop-test .left)), rw e at (l .inv .2))
 
--- src/lib.rt:34:9
 returns : tie.Need-returns Inv-loop μ-loop
 returns c =
     let a = c .before .before .before .args in
     sym (entry-full (a .top) (a .b .now) (c .before .before .before .pre .1) (omega (arith, whole (c .before))))
 
--- src/lib.rt:20:1
 returns-2 : tie.Need-returns-2 Inv-loop μ-loop
 returns-2 c =
     let a = c .before .before .before .args in

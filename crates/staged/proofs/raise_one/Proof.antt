@@ -10,8 +10,6 @@ use Rattle.laws.specs.Stage.{raise-here, raise-none}
 use Rattle.rules.specs.Stage.{raise}
 use Rattle.staged.proofs.raise_one.Statement.{statement}
 use Rattle.staged.proofs.raise_one.Tie as tie
-use Rattle.staged.proofs.raise_one.Reads as reads
-use Rattle.staged.proofs.raise_one.Lts as lts
 
 abbrev Inv-loop : tie.InvT-loop
 Inv-loop b₀ top i₀ b i = (i ≤ length b) × (b ≡ b₀) × (length b ≡ length b₀) × ((j : ℕ) → j < i → top ≤ getD b j 0)
@@ -19,31 +17,24 @@ Inv-loop b₀ top i₀ b i = (i ≤ length b) × (b ≡ b₀) × (length b ≡ l
 abbrev μ-loop : tie.MeasureT-loop
 μ-loop b₀ top i₀ b i = length b - i
 
--- src/lib.rt:70:5
 loop-holds : tie.Need-loop-holds Inv-loop μ-loop
 loop-holds c = (omega arith, refl, refl, below-none _)
 
--- src/lib.rt:71:12
 slice-read-if1 : tie.Need-slice-read-if1 Inv-loop μ-loop
 slice-read-if1 c = search needs
 
--- src/lib.rt:72:13
 slice-read-b : tie.Need-slice-read-b Inv-loop μ-loop
 slice-read-b c = search needs
 
--- src/lib.rt:72:13
 add-b : tie.Need-add-b Inv-loop μ-loop
 add-b c = omega arith
 
--- src/lib.rt:72:13
 slice-write-b : tie.Need-slice-write-b Inv-loop μ-loop
 slice-write-b c = search needs
 
--- src/lib.rt:73:13
 same-length : tie.Need-same-length Inv-loop μ-loop
 same-length c = search needs
 
--- src/lib.rt:73:13
 returns : tie.Need-returns Inv-loop μ-loop
 returns c =
     let b = c .before .before .before .before .loop .b in
@@ -52,23 +43,18 @@ returns c =
     ∙ sym (raise-here (c .before .before .before .before .before .args .top) i b (omega arith) (omega arith) (c .before .before .before .before .loop .inv .3))
     ∙ ap (raise (c .before .before .before .before .before .args .top)) (c .before .before .before .before .loop .inv .1)
 
--- src/lib.rt:75:9
 add-i : tie.Need-add-i Inv-loop μ-loop
 add-i c = search needs
 
--- src/lib.rt:70:5
 loop-less : tie.Need-loop-less Inv-loop μ-loop
 loop-less c = search needs
 
--- src/lib.rt:70:5
 loop-again : tie.Need-loop-again Inv-loop μ-loop
 loop-again c = (search needs, c .before .before .before .loop .inv .1, c .before .before .before .loop .inv .2, below-more _ _ (c .before .before .before .loop .inv .3) (omega arith))
 
--- src/lib.rt:66:1
 same-length-2 : tie.Need-same-length-2 Inv-loop μ-loop
 same-length-2 c = search needs
 
--- src/lib.rt:66:1
 returns-2 : tie.Need-returns-2 Inv-loop μ-loop
 returns-2 c =
     let e : c .before .loop .i ≡ length (c .before .loop .b) = omega arith in

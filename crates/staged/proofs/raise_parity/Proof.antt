@@ -6,39 +6,28 @@ use Rattle.laws.specs.Cut.{part-block}
 use Rattle.staged.specs.Laws.{part-store}
 use Rattle.staged.proofs.raise_parity.Statement.{statement}
 use Rattle.staged.proofs.raise_parity.Tie as tie
-use Rattle.staged.proofs.raise_parity.Reads as reads
-use Rattle.staged.proofs.raise_parity.Lts as lts
-use Rattle.staged.proofs.raise_one.Reads as raise-one-reads
 
--- src/lib.rt:84:13
 mul-a : tie.Need-mul-a
 mul-a c = search needs
 
--- src/lib.rt:85:13
 add-e : tie.Need-add-e
 add-e c = search needs
 
--- src/lib.rt:86:15
 sub-raise-one : tie.Need-sub-raise-one
 sub-raise-one c = search needs
 
--- src/lib.rt:86:15
 part-raise-one-start : tie.Need-part-raise-one-start
 part-raise-one-start c = search needs
 
--- src/lib.rt:86:15
 part-raise-one-end : tie.Need-part-raise-one-end
 part-raise-one-end c = search needs
 
--- src/lib.rt:86:5
 raise-one-requires : tie.Need-raise-one-requires
 raise-one-requires c κs = search needs
 
--- src/lib.rt:80:1
 same-length : tie.Need-same-length
 same-length c = search needs
 
--- src/lib.rt:80:1
 returns : tie.Need-returns
 returns c =
     let a = c .before .before .before .before .before .args in

@@ -11,8 +11,6 @@ use Rattle.rules.specs.Batches.{digits}
 use Rattle.staged.specs.Laws.{digits-first, digits-last, digits-turn, rest-lt}
 use Rattle.staged.proofs.set_index.Statement.{statement}
 use Rattle.staged.proofs.set_index.Tie as tie
-use Rattle.staged.proofs.set_index.Reads as reads
-use Rattle.staged.proofs.set_index.Lts as lts
 
 abbrev Inv-loop : tie.InvT-loop
 Inv-loop b₀ top u base rest₀ i₀ b rest i = (i ≤ length b) × (length b ≡ length b₀) × (rest < suc top ^ i) × (digits (suc top) (length b₀) u ≡ digits (suc top) i rest ++ drop i b)
@@ -20,39 +18,30 @@ Inv-loop b₀ top u base rest₀ i₀ b rest i = (i ≤ length b) × (length b �
 abbrev μ-loop : tie.MeasureT-loop
 μ-loop b₀ top u base rest₀ i₀ b rest i = i
 
--- src/lib.rt:44:16
 add-base : tie.Need-add-base Inv-loop μ-loop
 add-base c = search needs
 
--- src/lib.rt:47:5
 loop-holds : tie.Need-loop-holds Inv-loop μ-loop
 loop-holds c = (omega arith, search needs, search needs, digits-first (suc (c .args .top)) (c .args .u) (c .args .b .now))
 
--- src/lib.rt:48:9
 sub-i : tie.Need-sub-i Inv-loop μ-loop
 sub-i c = search needs
 
--- src/lib.rt:49:17
 rem-b : tie.Need-rem-b Inv-loop μ-loop
 rem-b c = search needs
 
--- src/lib.rt:49:16
 cast-b : tie.Need-cast-b Inv-loop μ-loop
 cast-b c = omega (arith, mod-lt (c .before .loop .rest) {m = c .before .before .args .top + 1} (omega arith))
 
--- src/lib.rt:49:9
 slice-write-b : tie.Need-slice-write-b Inv-loop μ-loop
 slice-write-b c = omega arith
 
--- src/lib.rt:50:9
 div-rest : tie.Need-div-rest Inv-loop μ-loop
 div-rest c = search needs
 
--- src/lib.rt:47:5
 loop-less : tie.Need-loop-less Inv-loop μ-loop
 loop-less c = search needs
 
--- src/lib.rt:47:5
 loop-again : tie.Need-loop-again Inv-loop μ-loop
 loop-again c =
     let l = c .before .loop in
@@ -65,11 +54,9 @@ loop-again c =
       rw (add-one (a .top)) (l .inv .3 ∙ ap (λ n. digits (suc (a .top)) n (l .rest) ++ drop n (l .b)) e ∙ digits-turn (a .top) (l .i - 1) (l .rest) (l .b) (omega arith) h),
     )
 
--- src/lib.rt:40:1
 same-length : tie.Need-same-length Inv-loop μ-loop
 same-length c = search needs
 
--- src/lib.rt:40:1
 returns : tie.Need-returns Inv-loop μ-loop
 returns c =
     let l = c .before .loop in

@@ -12,9 +12,6 @@ use Rattle.laws.specs.Cut.{block-fits, part-block}
 use Rattle.staged.specs.Laws.{some-sum, stage-is, zero-sum}
 use Rattle.staged.proofs.stage_of.Statement.{statement}
 use Rattle.staged.proofs.stage_of.Tie as tie
-use Rattle.staged.proofs.stage_of.Reads as reads
-use Rattle.staged.proofs.stage_of.Lts as lts
-use Rattle.block.proofs.all_zero.Reads as all-zero-reads
 
 abbrev Inv-loop : tie.InvT-loop
 Inv-loop index batch batches left₀ left = (left ≤ batches) × First (λ d. 0 < sum (block batch index (batches - 1 - d))) left nowhere
@@ -22,7 +19,6 @@ Inv-loop index batch batches left₀ left = (left ≤ batches) × First (λ d. 0
 abbrev μ-loop : tie.MeasureT-loop
 μ-loop index batch batches left₀ left = batches - left
 
--- src/lib.rt:119:5
 loop-holds : tie.Need-loop-holds Inv-loop μ-loop
 loop-holds c = (search needs, first-none)
 
@@ -32,39 +28,30 @@ inside c =
     let a = c .before .before .before .args in
     omega (arith, block-fits (a .batch) (a .batches - 1 - c .before .loop .left) (a .batches) (omega arith))
 
--- src/lib.rt:120:18
 sub-a : tie.Need-sub-a Inv-loop μ-loop
 sub-a c = search needs
 
--- src/lib.rt:120:18
 sub-a-2 : tie.Need-sub-a-2 Inv-loop μ-loop
 sub-a-2 c = search needs
 
--- src/lib.rt:120:17
 mul-a : tie.Need-mul-a Inv-loop μ-loop
 mul-a c = omega (arith, inside c)
 
--- src/lib.rt:121:17
 add-e : tie.Need-add-e Inv-loop μ-loop
 add-e c = omega (arith, inside c)
 
--- src/lib.rt:122:22
 sub-all-zero : tie.Need-sub-all-zero Inv-loop μ-loop
 sub-all-zero c = search needs
 
--- src/lib.rt:122:22
 part-all-zero-start : tie.Need-part-all-zero-start Inv-loop μ-loop
 part-all-zero-start c = search needs
 
--- src/lib.rt:122:22
 part-all-zero-end : tie.Need-part-all-zero-end Inv-loop μ-loop
 part-all-zero-end c = omega (arith, inside c)
 
--- src/lib.rt:122:13
 all-zero-requires : tie.Need-all-zero-requires Inv-loop μ-loop
 all-zero-requires c κs = search needs
 
--- src/lib.rt:123:13
 returns : tie.Need-returns Inv-loop μ-loop
 returns c =
     let o = c .before .before .before in
@@ -72,15 +59,12 @@ returns c =
     stage-is (a .batch) (a .batches) (a .index .now)
     (first-hit _ (o .before .loop .inv .1) (omega arith) (some-sum _ (rw (part-block (a .batch) (a .index .now) (a .batches - 1 - o .before .loop .left)) at (sym (c .before .all-zero .ensures) ∙ not-true _ (c .if1 .taken)))))
 
--- src/lib.rt:125:9
 add-left : tie.Need-add-left Inv-loop μ-loop
 add-left c = search needs
 
--- src/lib.rt:119:5
 loop-less : tie.Need-loop-less Inv-loop μ-loop
 loop-less c = search needs
 
--- src/lib.rt:119:5
 loop-again : tie.Need-loop-again Inv-loop μ-loop
 loop-again c =
     let o = c .before .before .before in
@@ -89,7 +73,6 @@ loop-again c =
     let z : sum (block (a .batch) (a .index .now) j) ≡ 0 = zero-sum _ (rw (part-block (a .batch) (a .index .now) j) at (sym (c .before .all-zero .ensures) ∙ not-false _ (c .if1 .left))) in
     (search needs, first-miss (o .before .loop .inv .1) (λ h. omega arith))
 
--- src/lib.rt:114:1
 returns-2 : tie.Need-returns-2 Inv-loop μ-loop
 returns-2 c =
     let a = c .before .before .before .args in

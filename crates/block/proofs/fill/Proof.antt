@@ -1,15 +1,13 @@
--- `staged::fill` meets its contract: the cells passed are at the level. Assumes nothing.
+-- `block::fill` meets its contract: the cells passed are at the level. Assumes nothing.
 use mathlib.Core.Path.{_≡_, _∙_, ap, sym}
 use Prim.Native.Nat.{_≤_, _-_}
 use native.Mathlib.Omega.{arith}
 use borrow.Author.Needs.{needs}
 use lib.ListN.{length, length-set, replicate, take}
 use lib.Seq.{take-all}
-use Rattle.staged.specs.Laws.{fill-turn}
-use Rattle.staged.proofs.fill.Statement.{statement}
-use Rattle.staged.proofs.fill.Tie as tie
-use Rattle.staged.proofs.fill.Reads as reads
-use Rattle.staged.proofs.fill.Lts as lts
+use Rattle.block.specs.Laws.{fill-turn}
+use Rattle.block.proofs.fill.Statement.{statement}
+use Rattle.block.proofs.fill.Tie as tie
 
 abbrev Inv-loop : tie.InvT-loop
 Inv-loop b₀ level i₀ b i = (i ≤ length b) × (length b ≡ length b₀) × (take i b ≡ replicate i level)
@@ -17,33 +15,26 @@ Inv-loop b₀ level i₀ b i = (i ≤ length b) × (length b ≡ length b₀) ×
 abbrev μ-loop : tie.MeasureT-loop
 μ-loop b₀ level i₀ b i = length b - i
 
--- src/lib.rt:59:5
 loop-holds : tie.Need-loop-holds Inv-loop μ-loop
 loop-holds c = search needs
 
--- src/lib.rt:60:9
 slice-write-b : tie.Need-slice-write-b Inv-loop μ-loop
 slice-write-b c = search needs
 
--- src/lib.rt:61:9
 add-i : tie.Need-add-i Inv-loop μ-loop
 add-i c = search needs
 
--- src/lib.rt:59:5
 loop-less : tie.Need-loop-less Inv-loop μ-loop
 loop-less c = simp length-set (omega arith)
 
--- src/lib.rt:59:5
 loop-again : tie.Need-loop-again Inv-loop μ-loop
 loop-again c =
     let l = c .before .loop in
     (simp length-set (omega arith), simp length-set (omega arith), fill-turn (l .b) (l .i) (c .before .before .args .level) (c .loop-test .taken) (l .inv .2))
 
--- src/lib.rt:55:1
 same-length : tie.Need-same-length Inv-loop μ-loop
 same-length c = search needs
 
--- src/lib.rt:55:1
 returns : tie.Need-returns Inv-loop μ-loop
 returns c =
     let l = c .before .loop in
