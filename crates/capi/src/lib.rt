@@ -1,8 +1,6 @@
 // The C interface: the four calls over numbers and lent bytes. A settings record crosses as seven numbers that the caller owns. Assumes nothing.
 use rules::Settings;
 ghost use mathlib.Core.Path.{_≡_};
-ghost use Prim.Native.Nat.{_≤_, _<_};
-ghost use lib.ListN.{length};
 ghost use Rattle.rules.specs.Answer.{numberOf, valueOf};
 ghost use Rattle.rules.specs.Calls.{settingsCall, eraseCall, readCall, changeCall};
 ghost use Rattle.capi.specs.Meaning.{recordOf, answerInto, recordInto};

@@ -1,16 +1,16 @@
 -- What a call's answer tells: which checks passed, and what the maps gave. Assumes nothing.
-use mathlib.Core.Path.{_≡_, refl, sym, ap, _∙_, subst}
+use mathlib.Core.Path.{_≡_, refl, sym, ap, _∙_}
 use mathlib.Core.List.{List}
-use Prim.Native.Nat.{ℕ, suc, _+_, _-_, _≤_, _<_}
+use Prim.Native.Nat.{ℕ, _-_, _≤_, _<_}
 use native.Mathlib.Decide.{ℕ-discrete, decLe, decLt}
 use native.Mathlib.Omega.{arith}
 use Rattle.laws.specs.Lists.{low-all, low-at}
 use lib.ListN.{length, getD, replicate}
-use Rattle.rules.specs.Search.{pick, Found, at, nowhere, first, Result, done, noPlace}
+use Rattle.rules.specs.Search.{Found, at, nowhere, Result, done, noPlace}
 use Rattle.rules.specs.SearchLaws.{pick-yes, pick-no, First, hit, miss, first-is, first-eq}
 use Rattle.rules.specs.Cells.{sum, Low, firstAbove}
 use Rattle.rules.specs.Accept.{Genuine, genuine?, guarantee}
-use Rattle.rules.specs.Calls.{Sound, sound?, changeSheet, ask, andThen, levelCheck, checkShape, checkLength, checkOutput, checkBit, checkLevels, checkSheet, eraseChecks, readChecks, changeChecks, Outcome, erasing, eraseCall, changed, changing, changeCall, Reading, reading, readCall}
+use Rattle.rules.specs.Calls.{Sound, sound?, changeSheet, ask, andThen, levelCheck, checkShape, checkLength, checkOutput, checkBit, checkLevels, checkSheet, eraseChecks, readChecks, changeChecks, Outcome, erasing, eraseCall, changed, changing, changeCall, reading, readCall}
 use Rattle.rules.specs.declared.Settings.{Settings}
 use Rattle.rules.specs.declared.Answer.{Answer}
 use Rattle.rules.specs.declared.Answer.the-variants.{Done, BadShape, BadLength, ShortOutput, BadBit, BadLevel, BadSheet, Erase, BadRecord}

@@ -4,9 +4,9 @@ use mathlib.Core.Logic.{_≢_, _↔_, ⊎-elim}
 use mathlib.Core.List.{List}
 use Prim.Native.Nat.{ℕ, zero, suc, _+_, _-_, _*_, _^_, _≤_, _<_}
 use native.Mathlib.Omega.{arith}
-use lib.ListN.{length, replicate}
+use lib.ListN.{replicate}
 use Rattle.rules.specs.Search.{Result, done, noPlace}
-use Rattle.rules.specs.Cells.{sum, Low, Rises}
+use Rattle.rules.specs.Cells.{sum, Rises}
 use Rattle.rules.specs.Plain.{Spare}
 use Rattle.rules.specs.Plain as R
 use Rattle.rules.specs.Staged.{Sheet}
@@ -18,7 +18,6 @@ use Rattle.rules.specs.Calls.{readBit, changeAt, changeSheet, Outcome, changed,
 use Rattle.rules.specs.Answer.{numberOf, valueOf}
 use Rattle.rules.specs.declared.Check.{Check}
 use Rattle.rules.specs.declared.Settings.{Settings}
-use Rattle.rules.specs.declared.Answer.{Answer}
 use Rattle.rules.specs.declared.Answer.the-variants.{Done, Erase}
 use Rattle.laws.specs.Kinds.{plain-sound, sound-plain, plain-read, plain-change, staged-sound, sound-staged, staged-read, staged-change}
 use Rattle.laws.specs.Lists.{rises-sum}

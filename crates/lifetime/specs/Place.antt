@@ -1,20 +1,19 @@
 -- Where the maps find no place for a change, in the words of document 01. Assumes nothing.
 use mathlib.Core.Path.{_≡_, refl, sym, ap, _∙_, subst}
-use mathlib.Core.Logic.{_≢_, _↔_, ⊎-elim}
+use mathlib.Core.Logic.{_↔_, ⊎-elim}
 use mathlib.Core.List.{List}
-use Prim.Native.Nat.{ℕ, zero, suc, _+_, _-_, _*_, _^_, _≤_, _<_}
+use Prim.Native.Nat.{ℕ, zero, suc, _-_, _*_, _^_, _<_}
 use native.Mathlib.Nat.{not-suc-le-zero, le-refl, lt-of-not-le, eq-or-lt-of-le, le-of-suc-le-suc}
 use native.Mathlib.Decide.{ℕ-discrete, decLe}
 use native.Mathlib.Omega.{arith}
 use lib.ListN.{length, getD}
-use Rattle.rules.specs.Search.{pick, Found, at, nowhere, first, Result, done, noPlace}
+use Rattle.rules.specs.Search.{Found, nowhere, first, Result, done, noPlace}
 use Rattle.rules.specs.SearchLaws.{pick-elim, pick-no, First, hit, miss, first-is, first-eq}
-use Rattle.rules.specs.Plain.{HasBit, hasBit?, IsEmpty, isEmpty?, Plan, put, erase, planFrom, plan, states, carryOut}
+use Rattle.rules.specs.Plain.{HasBit, hasBit?, IsEmpty, isEmpty?, planFrom, plan, states, carryOut}
 use Rattle.rules.specs.Plain as R
-use Rattle.rules.specs.Block.{State}
 use Rattle.rules.specs.Cells.{tabulate}
 use Rattle.rules.specs.Stage.{Entry, indexes, Absent, Within, stay, beyond, chosen, changeWithin}
-use Rattle.rules.specs.Staged.{Sheet, stage0, staged, parityLength, parityBlocks, liveCount, moveTo, later, after, read, fromStage0, fromStaged, change, written, changeCells}
+use Rattle.rules.specs.Staged.{Sheet, stage0, staged, parityLength, parityBlocks, liveCount, later, after, read, fromStage0, fromStaged, change, written, changeCells}
 use Rattle.laws.specs.Stage.{absent-at, at-absent}
 use Rattle.laws.specs.PlainMaps.{NoBlock}
 

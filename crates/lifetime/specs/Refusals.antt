@@ -8,7 +8,7 @@ use native.Mathlib.Nat.{not-suc-le-zero}
 use native.Mathlib.Omega.{arith}
 use lib.ListN.{length, getD, drop, replicate, length-append, length-drop, List·getD-append}
 use lib.Seq.{getD-drop}
-use Rattle.rules.specs.Search.{Found, at, Result, done, noPlace}
+use Rattle.rules.specs.Search.{Found, Result, done, noPlace}
 use Rattle.rules.specs.SearchLaws.{pick-yes, pick-no, pick-elim, First, hit, miss, first-is, first-eq}
 use Rattle.rules.specs.Cells.{sum, Low, firstAbove}
 use Rattle.rules.specs.Batches.{indexCells, decode}

@@ -1,10 +1,10 @@
 -- Laws of staged sheets, over what the cells mean: every change, the move, and the count of demand 3. Assumes nothing.
 use mathlib.Core.List.{List, _++_}
 use mathlib.Core.Logic.{_≢_, _⊎_, inl, inr}
-use mathlib.Core.Path.{_∙_, _≡_, ap, ap₂, refl, subst, subst₂, sym}
+use mathlib.Core.Path.{_∙_, _≡_, ap, ap₂, refl, subst, sym}
 use Prim.Native.Nat.{_%_, _*_, _+_, _-_, _<_, _^_, _≤_, suc, zero, zero-le, ℕ}
 use native.Mathlib.Decide.{decLe, ℕ-discrete}
-use native.Mathlib.Nat.{le-of-suc-le-suc, le-refl, mod-lt, mul-le-mul-right, not-suc-le-zero, pow-suc, sub-zero}
+use native.Mathlib.Nat.{le-refl, mod-lt, mul-le-mul-right, sub-zero}
 use native.Mathlib.Omega.{arith}
 use lib.ListN.{getD, length, length-append, length-replicate, replicate}
 use lib.Pow.{pow-pos}

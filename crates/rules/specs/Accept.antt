@@ -1,6 +1,6 @@
 -- Which settings are accepted, what is worked out of them, and what they guarantee (01, "The sheet and its settings"). Assumes nothing.
-use mathlib.Core.Path.{_≡_, refl, ap}
-use Prim.Native.Nat.{ℕ, zero, suc, _+_, _-_, _*_, _/_, _%_, _^_, _≤_, _<_}
+use mathlib.Core.Path.{_≡_, ap}
+use Prim.Native.Nat.{ℕ, zero, suc, _+_, _-_, _*_, _/_, _%_, _^_, _<_}
 use native.Mathlib.Decide.{ℕ-discrete, decLe, decLt}
 use Rattle.rules.specs.Search.{pick, both?, Found, at, nowhere, first}
 use Rattle.rules.specs.Batches.{batchCells, indexCells}

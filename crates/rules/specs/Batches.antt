@@ -1,7 +1,6 @@
 -- How kind 1 stores its index blocks: w digits in base L + 1, in batches 1 to s - 1 after the m blocks. Assumes nothing.
-use mathlib.Core.Path.{_≡_}
 use mathlib.Core.List.{List, [], _∷_, _++_, map}
-use Prim.Native.Nat.{ℕ, zero, suc, _+_, _-_, _*_, _/_, _%_, _^_, _<_}
+use Prim.Native.Nat.{ℕ, zero, suc, _+_, _-_, _*_, _/_, _%_, _^_}
 use native.Mathlib.Decide.{decLt}
 use lib.ListN.{length, take, drop, replicate}
 use Rattle.rules.specs.Search.{pick, both?, Found, at, nowhere, first}

@@ -1,7 +1,6 @@
 -- One block of k cells: empty, full, active on the cycle of one bit, or broken (01, "Plain rules"). Assumes nothing.
-use mathlib.Core.Path.{_≡_}
 use mathlib.Core.List.{List, [], _∷_, _++_}
-use Prim.Native.Nat.{ℕ, zero, suc, _+_, _-_, _*_, min}
+use Prim.Native.Nat.{ℕ, zero, suc, _-_, _*_, min}
 use native.Mathlib.Decide.{ℕ-discrete}
 use lib.ListN.{replicate}
 use Rattle.rules.specs.Search.{Found, at, nowhere, first}

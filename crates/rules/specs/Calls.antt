@@ -1,7 +1,6 @@
 -- What each call answers and leaves, for any input at all (01, "What each call answers"). Assumes nothing.
-use mathlib.Core.Path.{_≡_}
 use mathlib.Core.List.{List, _++_}
-use Prim.Native.Nat.{ℕ, zero, suc, _-_, _≤_, _<_}
+use Prim.Native.Nat.{ℕ, zero, suc, _-_}
 use native.Mathlib.Decide.{ℕ-discrete, decLe, decLt}
 use lib.ListN.{length, drop, replicate}
 use Rattle.rules.specs.Search.{pick, Found, at, nowhere, Result, done, noPlace}
@@ -9,7 +8,7 @@ use Rattle.rules.specs.Cells.{sum, firstAbove, tabulate}
 use Rattle.rules.specs.Plain as P
 use Rattle.rules.specs.Staged.{readCells, changeCells}
 use Rattle.rules.specs.Batches as B
-use Rattle.rules.specs.Accept.{accept, Genuine, genuine?, guarantee}
+use Rattle.rules.specs.Accept.{accept, genuine?, guarantee}
 use Rattle.rules.specs.declared.Settings.{Settings}
 use Rattle.rules.specs.declared.Setup.{Setup}
 use Rattle.rules.specs.declared.Answer.{Answer}

@@ -1,8 +1,8 @@
 -- Plain sheets: m blocks of k cells and then spare cells (01, "Plain rules"; the paper's D0 and E0). Assumes nothing.
 use mathlib.Core.Path.{_≡_}
 use mathlib.Core.List.{List}
-use Prim.Native.Nat.{ℕ, suc, _+_, _-_, _*_, _%_, _<_}
-use native.Mathlib.Decide.{ℕ-discrete, decLt}
+use Prim.Native.Nat.{ℕ, _-_, _*_, _%_, _<_}
+use native.Mathlib.Decide.{ℕ-discrete}
 use lib.ListN.{drop, replicate}
 use Rattle.rules.specs.Search.{both?, not?, all?, Found, at, nowhere, first, Result, done, noPlace}
 use Rattle.rules.specs.Cells.{same?, block, store}

@@ -1,13 +1,10 @@
 -- What the drive program makes of one record (01, "The drive program"). Assumes nothing.
-use mathlib.Core.Path.{_≡_}
-use mathlib.Core.Logic.{_⊎_, inl, inr}
 use mathlib.Core.List.{List, _++_}
-use Prim.Native.Nat.{ℕ, zero, suc, _+_, _*_, _≤_, _<_}
+use Prim.Native.Nat.{ℕ, zero, suc, _+_, _*_}
 use native.Mathlib.Decide.{ℕ-discrete, decLe, decLt}
 use lib.ListN.{length, getD, take, drop, replicate}
-use Rattle.rules.specs.Search.{pick}
 use Rattle.rules.specs.Accept.{accept}
-use Rattle.rules.specs.Calls.{ask, andThen, Outcome, eraseCall, changeCall, readCall}
+use Rattle.rules.specs.Calls.{ask, andThen, eraseCall, changeCall, readCall}
 use Rattle.rules.specs.declared.Settings.{Settings}
 use Rattle.rules.specs.declared.Answer.{Answer}
 use Rattle.rules.specs.declared.Answer.the-variants.{Done, BadShape, BadLength, ShortOutput, BadBit, BadLevel, BadSheet, Erase, BadRecord}

@@ -1,8 +1,7 @@
 -- Staged sheets (01, "Staged rules"): k = 2 ^ s bits, m blocks of k cells, and from stage 1 up a list of index blocks. Assumes nothing.
 -- A stage is told by how many stages are left, d: stage 0 has s - 1 left and the last has none, so that stage s - 1 - d has d left.
-use mathlib.Core.Path.{_≡_}
 use mathlib.Core.List.{List, _++_}
-use Prim.Native.Nat.{ℕ, zero, suc, _+_, _-_, _*_, _^_, _≤_}
+use Prim.Native.Nat.{ℕ, zero, suc, _-_, _*_, _^_}
 use native.Mathlib.Decide.{ℕ-discrete, decLe}
 use lib.ListN.{length, replicate}
 use Rattle.rules.specs.Search.{pick, Result, done, noPlace}

@@ -1,21 +1,21 @@
 -- Laws of plain sheets for the calls: check 6 by the scan and the spare cells, and the maps by the place found. Assumes nothing.
-use mathlib.Core.Path.{_≡_, refl, sym, ap, ap₂, _∙_, subst, subst₂}
+use mathlib.Core.Path.{_≡_, sym, ap, ap₂, _∙_, subst, subst₂}
 use mathlib.Core.Bool.{Bool, true, false, true≢false}
 use mathlib.Core.List.{List, _++_}
 use Prim.Native.Nat.{ℕ, suc, _+_, _-_, _*_, _%_, _≤_, _<_}
 use native.Mathlib.Omega.{arith}
 use lib.ListN.{length, getD, take, drop, replicate, length-drop}
 use lib.Seq.{take-all}
-use Rattle.rules.specs.Search.{pick, nowhere, Result, done, noPlace}
+use Rattle.rules.specs.Search.{pick, nowhere}
 use Rattle.rules.specs.Cells.{sum, same?, block, store, firstAbove}
 use Rattle.rules.specs.Block.{cycle}
-use Rattle.rules.specs.Plain.{Spare, BlocksOk}
+use Rattle.rules.specs.Plain.{Spare}
 use Rattle.rules.specs.AcceptLaws.{PlainFacts}
 use Rattle.rules.specs.Calls.{Sound, readBit, bitsOf, eraseChecks, readCall}
 use Rattle.rules.specs.Promises.{outcome, readOut}
 use Rattle.rules.specs.declared.Settings.{Settings}
-use Rattle.rules.specs.declared.Answer.the-variants.{Done, BadSheet, Erase}
-use Rattle.laws.specs.Calls.{sheet-broken, sheet-maps, size-passed, read-sound}
+use Rattle.rules.specs.declared.Answer.the-variants.{Done, Erase}
+use Rattle.laws.specs.Calls.{sheet-maps, size-passed, read-sound}
 use Rattle.laws.specs.Lists.{tabulate-same}
 use Rattle.rules.specs.declared.Check.the-variants.{Pass}
 use Rattle.block.specs.Laws.{fine-low}

@@ -1,7 +1,7 @@
 -- Laws of where the parts of a staged sheet stand: everything lies inside the n cells. Assumes nothing.
-use mathlib.Core.Path.{_≡_, refl, sym, ap, _∙_, subst}
+use mathlib.Core.Path.{_≡_, sym, ap, _∙_, subst}
 use Prim.Native.Nat.{ℕ, suc, _+_, _-_, _*_, _%_, _^_, _≤_, _<_}
-use native.Mathlib.Nat.{mul-le-mul-right, mul-le-mul-left, le-mul-of-pos-right, le-trans, pow-suc}
+use native.Mathlib.Nat.{mul-le-mul-right, le-mul-of-pos-right, pow-suc}
 use native.Mathlib.Omega.{arith}
 use lib.Pow.{pow-mono, pow-pos, shl-exact}
 use Rattle.rules.specs.AcceptLaws.{StagedFacts}

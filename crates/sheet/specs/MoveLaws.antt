@@ -1,17 +1,17 @@
 -- Laws of going on to a later stage: how many parity blocks are live there, and that its batch is still all 0. Assumes nothing.
 use mathlib.Core.Path.{_≡_, refl, sym, ap, ap₂, _∙_, subst, subst₂}
-use mathlib.Core.List.{List, [], _∷_}
+use mathlib.Core.List.{List, []}
 use Prim.Native.Nat.{ℕ, zero, suc, _+_, _-_, _*_, _%_, _^_, _≤_, _<_}
-use native.Mathlib.Decide.{decLe, ℕ-discrete}
+use native.Mathlib.Decide.{decLe}
 use native.Mathlib.Nat.{le-refl}
 use native.Mathlib.Omega.{arith}
 use lib.ListN.{length, getD, take, drop, replicate, length-drop}
 use lib.Pow.{pow-pos}
 use lib.Seq.{length-take-le}
-use Rattle.rules.specs.Search.{pick, Found, at, nowhere, Result, done}
+use Rattle.rules.specs.Search.{Found, at, nowhere, done}
 use Rattle.rules.specs.SearchLaws.{pick-elim}
 use Rattle.rules.specs.Cells.{Low, sum, tabulate, chop}
-use Rattle.rules.specs.Staged.{Sheet, parityLength, parityCount, liveCount, after, later, change, moveTo, written, changeCells}
+use Rattle.rules.specs.Staged.{parityLength, parityCount, liveCount, after, later, change, moveTo, written, changeCells}
 use Rattle.rules.specs.Batches.{batchCells, batch, decode, write}
 use Rattle.rules.specs.AcceptLaws.{StagedFacts, staged-bits}
 use Rattle.rules.specs.Calls.{Sound, changeSheet}

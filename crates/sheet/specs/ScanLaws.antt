@@ -1,31 +1,27 @@
 -- Laws of a staged sheet at a stage from 1 up, as its parts are lent to the scan. Assumes nothing.
-use mathlib.Core.Path.{_≡_, refl, sym, ap, ap₂, _∙_, subst, subst₂}
-use mathlib.Core.Bool.{true, false}
-use mathlib.Core.List.{List, map}
-use Prim.Native.Nat.{ℕ, zero, suc, _+_, _-_, _*_, _%_, _^_, _≤_, _<_}
-use native.Mathlib.Nat.{pow-suc, pow-zero, mul-le-mul, not-suc-le-zero, le-refl}
+use mathlib.Core.Path.{_≡_, refl, sym, ap, _∙_, subst, subst₂}
+use mathlib.Core.List.{List}
+use Prim.Native.Nat.{ℕ, zero, suc, _+_, _-_, _*_, _^_, _≤_, _<_}
+use native.Mathlib.Nat.{pow-suc, pow-zero, mul-le-mul}
 use native.Mathlib.Omega.{arith}
-use lib.ListN.{length, getD, take, drop, length-drop}
+use lib.ListN.{length, take, drop, length-drop}
 use lib.Pow.{pow-pos}
 use lib.Seq.{length-take-le}
 use Rattle.rules.specs.Search.{at}
 use Rattle.rules.specs.Cells.{Low, chop}
-use Rattle.rules.specs.Stage.{Entry, StageOk}
 use Rattle.rules.specs.Staged.{parityLength, parityCount, parityBlocks, indexBlocks}
 use Rattle.rules.specs.Staged as S
-use Rattle.rules.specs.Batches.{batchCells, batch, entryOf}
+use Rattle.rules.specs.Batches.{batchCells, batch}
 use Rattle.rules.specs.AcceptLaws.{StagedFacts, staged-bits}
-use Rattle.rules.specs.Calls.{Sound, readBit}
 use Rattle.rules.specs.declared.Settings.{Settings}
 use Rattle.laws.specs.Lists.{low-take, low-drop}
-use Rattle.stage.specs.Meaning.{entries, BatchFits, StageFits, StageScanned}
+use Rattle.stage.specs.Meaning.{entries, StageFits, StageScanned}
 use Rattle.stage.specs.PlaceLaws.{stage-read}
 use Rattle.stage.specs.declared.StageScan.{StageScan}
 use Rattle.sheet.specs.Meaning.{Levelled, BitsOf}
-use Rattle.sheet.specs.LayoutLaws.{cells-most, batch-are, batch-inside, parity-cells, length-most}
+use Rattle.sheet.specs.LayoutLaws.{cells-most, batch-inside, parity-cells}
 use Rattle.sheet.specs.StageLaws.{AtStage, stage-sound, sound-stage, read-stage, batch-part}
 use Rattle.sheet.specs.ZeroLaws.{cells-in}
-use Rattle.sheet.specs.declared.Bits.{Bits}
 
 -- the m blocks, and what the index blocks of the stage with d left say
 abbrev pub mBlocks : Settings → List ℕ → List ℕ

@@ -1,21 +1,19 @@
 -- Laws of the stage that a staged sheet is in: its rules and its reading are those of that stage. Assumes nothing.
-use mathlib.Core.Path.{_≡_, refl, sym, ap, ap₂, _∙_, subst}
+use mathlib.Core.Path.{_≡_, sym, ap, _∙_, subst}
 use mathlib.Core.Bool.{Bool, true, false}
-use mathlib.Core.List.{List, map}
-use Prim.Native.Nat.{ℕ, zero, suc, _+_, _-_, _*_, _%_, _^_, _≤_, _<_}
+use mathlib.Core.List.{List}
+use Prim.Native.Nat.{ℕ, _+_, _-_, _*_, _^_, _≤_, _<_}
 use native.Mathlib.Decide.{decLt}
 use native.Mathlib.Omega.{arith}
-use lib.ListN.{length, getD, take, drop, replicate}
+use lib.ListN.{length, take, drop, replicate}
 use lib.Seq.{drop-drop}
 use Rattle.rules.specs.Search.{pick, Found, at, nowhere, first}
 use Rattle.rules.specs.SearchLaws.{First, hit, miss, first-is}
-use Rattle.rules.specs.Cells.{sum, same?, block, chop}
-use Rattle.rules.specs.Plain.{Spare, BlocksOk}
-use Rattle.rules.specs.Plain as P
-use Rattle.rules.specs.Stage.{StageOk, valueOf}
-use Rattle.rules.specs.Staged.{Sheet, stage0, staged, parityLength, parityCount, parityBlocks, indexBlocks, SheetOk, readCells}
+use Rattle.rules.specs.Cells.{sum, same?, block}
+use Rattle.rules.specs.Plain.{Spare}
+use Rattle.rules.specs.Staged.{Sheet, SheetOk, readCells}
 use Rattle.rules.specs.Staged as S
-use Rattle.rules.specs.Batches.{batchCells, indexCells, batch, sheetAt, decode, entryOf}
+use Rattle.rules.specs.Batches.{batchCells, indexCells, batch, sheetAt, decode}
 use Rattle.rules.specs.AcceptLaws.{StagedFacts}
 use Rattle.rules.specs.Calls.{Sound, readBit}
 use Rattle.rules.specs.declared.Settings.{Settings}

@@ -35,7 +35,7 @@ use Rattle.stage.specs.PlaceLaws.{stage-ok, stage-place, stage-read}
 use Rattle.stage.specs.declared.StagePlace.{StagePlace}
 use Rattle.stage.specs.declared.StagePlace.the-variants.{Beyond, Free, Own}
 use Rattle.stage.specs.declared.StageScan.{StageScan}
-use Rattle.sheet.specs.LayoutLaws.{batch-inside, cells-most, length-most, parity-cells}
+use Rattle.sheet.specs.LayoutLaws.{batch-inside, length-most, parity-cells}
 use Rattle.sheet.specs.Meaning.{Levelled, fromSheet}
 use Rattle.sheet.specs.MoveLaws.{Stuck}
 use Rattle.sheet.specs.ScanLaws.{ScannedAt, mBlocks, stage-fits, stageBatch}

@@ -4,17 +4,16 @@ use mathlib.Core.Bool.{true, false}
 use mathlib.Core.List.{List, _++_, append-assoc}
 use Prim.Native.Nat.{ℕ, suc, _+_, _-_, _*_, _%_, _^_, _≤_, _<_}
 use native.Mathlib.Decide.{ℕ-discrete}
-use native.Mathlib.Nat.{le-refl, mul-le-mul-right, sub-self}
+use native.Mathlib.Nat.{le-refl, sub-self}
 use native.Mathlib.Omega.{arith}
-use lib.ListN.{length, getD, take, drop, replicate, length-drop, take-append-drop, drop-of-length-le}
+use lib.ListN.{length, getD, take, drop, replicate, take-append-drop, drop-of-length-le}
 use lib.Pow.{pow-pos}
 use lib.Seq.{length-take-le, take-take, drop-append-le}
 use Rattle.rules.specs.Search.{pick, nowhere, Result, done, noPlace}
-use Rattle.rules.specs.Cells.{sum, tabulate, block, store}
+use Rattle.rules.specs.Cells.{tabulate, block, store}
 use Rattle.rules.specs.Block.{cycle}
-use Rattle.rules.specs.Plain.{BlocksOk, states, erase}
 use Rattle.rules.specs.Plain as P
-use Rattle.rules.specs.Staged.{Sheet, stage0, after, later, written, changeCells, fromStage0}
+use Rattle.rules.specs.Staged.{stage0, after, later, written, changeCells, fromStage0}
 use Rattle.rules.specs.Staged as S
 use Rattle.rules.specs.Batches.{decode, write}
 use Rattle.rules.specs.AcceptLaws.{StagedFacts, staged-bits}
@@ -35,9 +34,9 @@ use Rattle.plain.specs.Laws.{block-end, scanned-place, scanned-read, step-raise
 use Rattle.plain.specs.declared.Scan.{Scan}
 use Rattle.plain.specs.declared.Found.{Found}
 use Rattle.plain.specs.declared.Found.the-variants.{At, Nowhere}
-use Rattle.sheet.specs.Meaning.{Levelled, fromSheet}
+use Rattle.sheet.specs.Meaning.{Levelled}
 use Rattle.sheet.specs.Laws.{Stepped}
-use Rattle.sheet.specs.LayoutLaws.{cells-are, cells-most}
+use Rattle.sheet.specs.LayoutLaws.{cells-are}
 use Rattle.sheet.specs.StageLaws.{AtStage, stage-sound, sound-stage, decode-at, dark-zero}
 use Rattle.sheet.specs.ZeroLaws.{cells-in, to-rules, from-rules}
 use Rattle.sheet.specs.MoveLaws.{Stuck}

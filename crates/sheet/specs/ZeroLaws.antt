@@ -1,19 +1,18 @@
 -- Laws of a staged sheet at stage 0: the plain rules on the m blocks, as they are lent. Assumes nothing.
-use mathlib.Core.Path.{_≡_, refl, sym, ap, ap₂, _∙_, subst, subst₂}
-use mathlib.Core.Bool.{Bool, true, false}
+use mathlib.Core.Path.{_≡_, sym, ap, ap₂, _∙_, subst₂}
 use mathlib.Core.List.{List}
-use Prim.Native.Nat.{ℕ, suc, _+_, _-_, _*_, _%_, _^_, _≤_, _<_}
+use Prim.Native.Nat.{ℕ, _-_, _*_, _^_, _≤_}
 use native.Mathlib.Omega.{arith}
-use lib.ListN.{length, getD, take, drop, length-drop}
+use lib.ListN.{length, take, drop, length-drop}
 use lib.Seq.{length-take-le, take-all}
-use Rattle.rules.specs.Search.{Found, at, nowhere}
+use Rattle.rules.specs.Search.{nowhere}
 use Rattle.rules.specs.Cells.{Low}
 use Rattle.rules.specs.Plain.{BlocksOk}
 use Rattle.rules.specs.Plain as P
 use Rattle.rules.specs.Staged as S
-use Rattle.rules.specs.Batches.{batchCells, indexCells}
+use Rattle.rules.specs.Batches.{batchCells}
 use Rattle.rules.specs.AcceptLaws.{StagedFacts, staged-bits}
-use Rattle.rules.specs.Calls.{Sound, readBit}
+use Rattle.rules.specs.Calls.{readBit}
 use Rattle.rules.specs.declared.Settings.{Settings}
 use Rattle.laws.specs.Lists.{low-take}
 use Rattle.staged.specs.Meaning.{stageLeft}
@@ -25,7 +24,6 @@ use Rattle.sheet.specs.Meaning.{Levelled, BitsOf}
 use Rattle.sheet.specs.Laws.{partFrom}
 use Rattle.sheet.specs.LayoutLaws.{inside, cells-are, cells-most}
 use Rattle.sheet.specs.StageLaws.{stageFound, AtStage, stage-sound, sound-stage, read-stage}
-use Rattle.sheet.specs.declared.Bits.{Bits}
 
 module _ (r : Settings) (p : StagedFacts r) (f : List ℕ) (v : Levelled r f) where
   -- the m blocks lie in the sheet

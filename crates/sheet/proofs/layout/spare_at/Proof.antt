@@ -2,7 +2,7 @@
 use mathlib.Core.Path.{ap, ap₂}
 use Prim.Native.Nat.{ℕ, _+_, _-_, _*_}
 use native.Mathlib.Omega.{arith}
-use Rattle.sheet.specs.LayoutLaws.{inside, cells-most}
+use Rattle.sheet.specs.LayoutLaws.{inside}
 use borrow.Author.Needs.{needs}
 use Rattle.sheet.proofs.layout.spare_at.Statement.{statement}
 use Rattle.sheet.proofs.layout.spare_at.Tie as tie
