@@ -2,13 +2,13 @@
 -- Assumes nothing.
 use mathlib.Core.List.{List, [], _++_, _∷_}
 use mathlib.Core.Path.{_∙_, _≡_, ap, refl, subst, sym}
-use Prim.Native.Nat.{_%_, _*_, _+_, _<_, _≤_, suc, suc-le-suc, zero, zero-le, ℕ}
+use Prim.Native.Nat.{_%_, _*_, _+_, _<_, _≤_, suc, suc-le-suc, zero, ℕ}
 use native.Mathlib.Decide.{ℕ-discrete}
 use native.Mathlib.Nat.{le-refl, le-trans}
 use native.Mathlib.Omega.{arith}
 use lib.ListN.{drop, length, length-drop, take}
 use lib.Seq.{drop-drop, length-take-le, take-add}
-use Rattle.laws.specs.Lists.{low-drop, low-take, sum-append, sum-replicate}
+use Rattle.laws.specs.Lists.{low-drop, low-take, sum-append, sum-low, sum-replicate}
 use Rattle.laws.specs.Live.{chop-snoc, live, live-append, live-full, live-le, live-more, live-none}
 use Rattle.laws.specs.PlainMaps.{Planned, Proper, activeBits, bits-few, noteBit, out}
 use Rattle.laws.specs.PlainSheet.{Accepted, block-cells}
@@ -19,10 +19,6 @@ use Rattle.rules.specs.Search.{here}
 use Rattle.rules.specs.Stage.{liveWeights}
 
 -- ---- halves
-
-low-sum : (L : ℕ) (xs : List ℕ) → Low L xs → sum xs ≤ length xs * L
-low-sum L [] h = zero-le
-low-sum L (x ∷ xs) h = omega (arith, h .0, low-sum L xs (h .1))
 
 -- two halves for one block
 pair : (W : ℕ) (a b c : List ℕ) (ds cs : List (List ℕ)) → sum c ≡ sum a + sum b → sum a ≤ W → sum b ≤ W → live W ds ≤ 2 * live (W + W) cs
@@ -42,7 +38,7 @@ twice-is zero = refl
 twice-is (suc n) = omega (arith, twice-is n)
 
 part-low : (w L : ℕ) (xs : List ℕ) → Low L xs → w ≤ length xs → sum (take w xs) ≤ w * L
-part-low w L xs l h = subst (λ (x : ℕ). sum (take w xs) ≤ x * L) (length-take-le w xs h) (low-sum L (take w xs) (low-take L w xs l))
+part-low w L xs l h = subst (λ (x : ℕ). sum (take w xs) ≤ x * L) (length-take-le w xs h) (sum-low L (take w xs) (low-take L w xs l))
 
 halves : (w L n : ℕ) (xs : List ℕ) → Low L xs → n * (w + w) ≤ length xs → live (w * L) (chop w (twice n) xs) ≤ 2 * live (w * L + w * L) (chop (w + w) n xs)
 halves w L zero xs l h = omega (arith, live-none (w * L))

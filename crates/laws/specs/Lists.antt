@@ -64,6 +64,12 @@ rises-zero (x ∷ b) [] e (suc i) = rises-zero b [] (omega arith) i
 rises-zero (x ∷ b) (y ∷ c) e zero = omega arith
 rises-zero (x ∷ b) (y ∷ c) e (suc i) = rises-zero b c (omega arith) i
 
+-- where no level falls, the sum does not
+pub rises-sum : (xs ys : List ℕ) → length xs ≡ length ys → Rises xs ys → sum xs ≤ sum ys
+rises-sum [] ys e h = zero-le
+rises-sum (x ∷ xs) [] e h = absurd (omega arith)
+rises-sum (x ∷ xs) (y ∷ ys) e h = omega (arith, h 0, rises-sum xs ys (suc-inj e) (λ c. h (suc c)))
+
 -- ---- no level is above L
 
 pub low-append : (L : ℕ) (p q : List ℕ) → Low L p → Low L q → Low L (p ++ q)
@@ -84,28 +90,27 @@ pub low-replicate : (L n a : ℕ) → a ≤ L → Low L (replicate n a)
 low-replicate L zero a h = tt
 low-replicate L (suc n) a h = (h, low-replicate L n a h)
 
+-- the sum is at most L for each cell
+pub sum-low : (L : ℕ) (xs : List ℕ) → Low L xs → sum xs ≤ length xs * L
+sum-low L [] h = zero-le
+sum-low L (x ∷ xs) h = omega (arith, h .0, sum-low L xs (h .1))
+
+-- cells raised to L have not fallen
 pub rises-full : (L : ℕ) (b : List ℕ) → Low L b → Rises b (replicate (length b) L)
 rises-full L [] h i = zero-le
 rises-full L (x ∷ b) h zero = h .0
 rises-full L (x ∷ b) h (suc i) = rises-full L b (h .1) i
-
--- ---- lists of numbers are equal or not
 
 -- cell by cell, no level is above L
 pub low-all : (L : ℕ) (xs : List ℕ) → ((c : ℕ) → c < length xs → getD xs c 0 ≤ L) → Low L xs
 low-all L [] h = tt
 low-all L (x ∷ xs) h = (h 0 (suc-le-suc zero-le), low-all L xs (λ c l. h (suc c) (suc-le-suc l)))
 
+-- and conversely
 pub low-at : (L : ℕ) (xs : List ℕ) → Low L xs → (c : ℕ) → getD xs c 0 ≤ L
 low-at L [] h c = zero-le
 low-at L (x ∷ xs) h zero = h .0
 low-at L (x ∷ xs) h (suc c) = low-at L xs (h .1) c
-
--- where no level falls, the sum does not
-pub rises-sum : (xs ys : List ℕ) → length xs ≡ length ys → Rises xs ys → sum xs ≤ sum ys
-rises-sum [] ys e h = zero-le
-rises-sum (x ∷ xs) [] e h = absurd (omega arith)
-rises-sum (x ∷ xs) (y ∷ ys) e h = omega (arith, h 0, rises-sum xs ys (suc-inj e) (λ c. h (suc c)))
 
 -- ---- f 0, .., f (n - 1)
 

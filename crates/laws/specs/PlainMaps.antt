@@ -13,7 +13,6 @@ use Rattle.rules.specs.Plain.{HasBit, IsEmpty, NoRepeat, Plan, SameBit, bitOf, 
 use Rattle.rules.specs.Search.{Found, at, first, here, nowhere}
 use Rattle.rules.specs.SearchLaws.{First, first-is, hit, miss}
 use Rattle.rules.specs.Stage.{Absent}
-use Rattle.rules.specs.Staged.{after}
 
 -- the sum of a number of each block
 abbrev pub tally : (State → ℕ) → (ℕ → State) → ℕ → ℕ

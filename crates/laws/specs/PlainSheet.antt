@@ -7,10 +7,10 @@ use native.Mathlib.Decide.{ℕ-discrete}
 use native.Mathlib.Nat.{le-refl, mul-le-mul-right}
 use native.Mathlib.Omega.{arith}
 use lib.ListN.{drop, length, length-replicate, replicate, take}
-use Rattle.laws.specs.Block.{Means, cycle-full, cycle-low, cycle-rises, cycle-zero, length-cycle, rises, state-means, state-one, sum-cycle}
+use Rattle.laws.specs.Block.{Means, cycle-full, cycle-low, cycle-rises, cycle-zero, length-cycle, state-means, state-one, sum-cycle}
 use Rattle.laws.specs.Cut.{blockSum, length-store, store-other, store-past, store-rises, store-same, store-sum, sum-blocks, sum-split}
 use Rattle.laws.specs.Lists.{drop-replicate, low-append, low-drop, low-replicate, low-take, sum-replicate, take-replicate}
-use Rattle.laws.specs.PlainMaps.{Lawful, Legal, Planned, Proper, Update, adds, bit-two, erase-late, flips, keeps, lawful-from, legal, new, no-repeat, own, plan-is, stays, total}
+use Rattle.laws.specs.PlainMaps.{Lawful, Legal, Planned, Proper, Update, bit-two, erase-late, flips, keeps, lawful-from, legal, new, no-repeat, own, plan-is, stays, total}
 use Rattle.rules.specs.Block.{State, active, broken, cellsOf, cycle, empty, full, grown, next, stateOf}
 use Rattle.rules.specs.Cells.{Low, Rises, block, store, sum}
 use Rattle.rules.specs.Plain.{BlocksOk, HasBit, OnCycle, Plan, carryOut, change, erase, plan, put, read, states, weight}

@@ -67,9 +67,6 @@ module _ (s m L : ℕ) (xs vs : List ℕ) where
       pick-no (decLe (2 ^ s) (liveCount s m L d xs)) _ _ (λ q. let z : liveCount s m L d xs < 2 ^ s = h d (le-refl (suc d)) in omega arith)
       ∙ none-later d (λ c l. h c (omega arith))
 
-  pub later-place : (d : ℕ) → later s m L d xs vs ≡ noPlace ↔ NoStageLeft s m L d xs
-  later-place d = (later-none d, none-later d)
-
 -- ---- a stage from 1 up
 
 module _ (W L i : ℕ) (bs : List (List ℕ)) (es : List Entry) where

@@ -13,7 +13,8 @@ use Rattle.rules.specs.SearchLaws.{pick-yes, pick-no, pick-elim, First, hit, mi
 use Rattle.rules.specs.Cells.{sum, Low, firstAbove}
 use Rattle.rules.specs.Batches.{indexCells, decode}
 use Rattle.rules.specs.Accept.{stagesOf, indexWidth, refused, accept, Genuine, genuine?, guarantee}
-use Rattle.rules.specs.AcceptLaws.{PlainRules, StagedRules, Ruled, kept, broken, plain-ruled, staged-ruled, stages-bits}
+use Rattle.rules.specs.StagesLaws.{stages-bits}
+use Rattle.rules.specs.AcceptLaws.{PlainRules, StagedRules, Ruled, kept, broken, plain-ruled, staged-ruled}
 use Rattle.rules.specs.Calls.{Sound, sound?, readAt, readBit, bitsOf, changeSheet, ask, andThen, levelCheck, checkLength, checkLevels, checkSheet, eraseChecks, readChecks, changeChecks, settingsCall, Outcome, erasing, eraseCall, changed, changing, changeCall, Reading, reading, readCall}
 use Rattle.rules.specs.Answer.{numberOf, valueOf}
 use Rattle.rules.specs.Promises.{outcome, readOut}

@@ -8,7 +8,8 @@ use lib.ListN.{replicate, length-replicate}
 use Rattle.rules.specs.Search.{done}
 use Rattle.rules.specs.Cells.{sum}
 use Rattle.rules.specs.Accept.{Genuine, guarantee}
-use Rattle.rules.specs.AcceptLaws.{PlainFacts, StagedFacts, genuine-facts, genuine-plain, guarantee-plain, guarantee-staged}
+use Rattle.rules.specs.AcceptLaws.{PlainFacts, StagedFacts, genuine-facts, genuine-plain}
+use Rattle.rules.specs.GuaranteeLaws.{guarantee-plain, guarantee-staged}
 use Rattle.rules.specs.Calls.{changeSheet, Outcome, eraseChecks, erasing, eraseCall, changeCall}
 use Rattle.rules.specs.declared.Check.{Check}
 use Rattle.rules.specs.declared.Check.the-variants.{Pass}

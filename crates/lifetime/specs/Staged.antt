@@ -8,17 +8,15 @@ use native.Mathlib.Nat.{le-refl, mod-lt, mul-le-mul-right, sub-zero}
 use native.Mathlib.Omega.{arith}
 use lib.ListN.{getD, length, length-append, length-replicate, replicate}
 use lib.Pow.{pow-pos}
-use Rattle.laws.specs.Block.{rises}
 use Rattle.laws.specs.Chop.{chop-join, chop-sized, join-chop, length-chop, length-join, length-record, low-join, sum-join, sums-chop}
 use Rattle.laws.specs.Halve.{plain-live}
 use Rattle.laws.specs.Lists.{getD-tabulate, length-tabulate, sum-replicate}
 use Rattle.laws.specs.Parity.{count-width, even-width, half-live, half-power, stage0-few}
-use Rattle.laws.specs.PlainMaps.{few, flips, keeps}
+use Rattle.laws.specs.PlainMaps.{few}
 use Rattle.laws.specs.Stage.{Forth, Sized, Used, full-sums, names-few, record-le, same, sums, used-append}
 use Rattle.lifetime.specs.Move.{Bits, entries-even, entries-names, entries-read, entries-used, indexes-pad, length-entries, record-sized}
 use Rattle.lifetime.specs.Up.{record-up, up-join}
 use Rattle.lifetime.specs.Within.{InLaw, Stands, in-law}
-use Rattle.rules.specs.Block.{full}
 use Rattle.rules.specs.Cells.{Low, Rises, chop, join, sum, tabulate}
 use Rattle.rules.specs.Search.{Result, done, here, noPlace}
 use Rattle.rules.specs.SearchLaws.{pick-elim, pick-no, pick-yes}
@@ -41,11 +39,12 @@ abbrev pub stagesLeft : ℕ → Sheet → ℕ
 stagesLeft s (stage0 xs) = s - 1
 stagesLeft s (staged d xs es) = d
 
--- the cells of the m blocks, and the sum of their levels
+-- the cells of the m blocks
 abbrev pub blockCells : Sheet → List ℕ
 blockCells (stage0 xs) = xs
 blockCells (staged d xs es) = xs
 
+-- the sum of their levels
 abbrev pub levels : Sheet → ℕ
 levels x = sum (blockCells x)
 
@@ -180,6 +179,7 @@ module _ (s m L : ℕ) where
         mul-le-mul-right {m = length (liveWeights W (parityBlocks s m 0 xs))} {n = 2 ^ s - 1} W (omega arith),
       )
 
+  -- a reading is 0 or 1
   pub read-two : (x : Sheet) (y : ℕ) → read s m L x y < 2
   unfolding read
   read-two (stage0 xs) y = P.read-two (2 ^ s) L m xs y

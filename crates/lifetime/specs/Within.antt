@@ -8,8 +8,7 @@ use native.Mathlib.Nat.{suc-inj, suc-ne-zero}
 use native.Mathlib.Omega.{arith}
 use lib.ListN.{getD, length, length-set, set}
 use lib.Seq.{getD-set-other, getD-set-same, set-getD}
-use Rattle.laws.specs.Stage.{Forth, Sized, Used, absent-at, at-absent, closed-indexes, fill-remove, fill-set, forth-closed, forth-index, forth-same, length-raise-live, length-remove, length-set-live, names-gone, names-remove, names-set, raise-live-le, raise-live-weights, raise-sized, remove, same, set-indexes, sums, used-closed, used-index, weight-at, weight-none, weight-remove, weight-set}
-use Rattle.laws.specs.PlainMaps.{adds, flips, keeps}
+use Rattle.laws.specs.Stage.{Forth, Sized, Used, absent-at, at-absent, closed-indexes, fill-remove, fill-set, forth-closed, forth-index, forth-same, length-raise-live, length-remove, length-set-live, names-gone, names-remove, names-set, raise-live-le, raise-live-weights, raise-sized, remove, set-indexes, sums, used-closed, used-index, weight-at, weight-none, weight-remove, weight-set}
 use Rattle.lifetime.specs.Up.{Up, raise-up, up-same}
 use Rattle.rules.specs.Search.{Found, here}
 use Rattle.rules.specs.SearchLaws.{First, first-is, hit, miss, pick-elim}
@@ -68,11 +67,13 @@ module _ (k W i t : ℕ) (ts ws : List ℕ) (two : W % 2 ≡ 0) (even : length t
 
 -- ---- the law of a change within a stage
 
+-- blocks and index blocks that keep the stage's rules
 pub record Stands (k w L : ℕ) (bs : List (List ℕ)) (es : List Entry) : Type 0 where
   pub sized : Sized w L bs
   pub even : length (indexes es) ≡ length (liveWeights (w * L) bs)
   pub names : Names k (indexes es)
 
+-- what a change of bit i that stays in the stage does
 pub record Stepped (k w L i : ℕ) (bs : List (List ℕ)) (es : List Entry) (bs′ : List (List ℕ)) (es′ : List Entry) : Type 0 where
   pub stands : Stands k w L bs′ es′
   pub flips : valueOf (w * L) bs′ es′ i ≡ 1 - valueOf (w * L) bs es i
@@ -133,6 +134,7 @@ module _ (k w L i : ℕ) (bs : List (List ℕ)) (es : List Entry) (g : Stands k 
         (free k W i t (indexes es) ws two (g .even) (g .names) l here e o (getD ws t 0) (omega arith)))
     chosen-law (miss b) (miss b′) = (at-absent 0 (indexes es) b′, at-absent (suc i) (indexes es) b)
 
+    -- the change within a stage does so
     pub in-law : InLaw k w L i bs es (changeWithin (w * L) L i bs es)
     unfolding changeWithin
     in-law = chosen-law (first-is (λ t. ℕ-discrete (getD (indexes es) t 0) (suc i)) (length (indexes es))) (first-is (λ t. ℕ-discrete (getD (indexes es) t 0) 0) (length (indexes es)))

@@ -104,6 +104,7 @@ pub record Marked : Type 0 where
   pub bit1third : Moves sheet₃ 1 3 sheet₄
   pub bit1fourth : Moves sheet₄ 1 3 sheet₅
 
+-- every number is what the definitions compute
 pub marked : Marked
 unfolding settingsCall changeCall readCall sound? readBit changeSheet genuine? sameSettings? guarantee acceptPlain acceptStaged indexWidth firstAbove
     P.sound? P.blocksOk? P.read P.change P.plan P.bitOf P.states S.read S.change S.readCells S.changeCells S.sheetOk? B.sound? B.decode B.batch B.entryOf B.number B.digits

@@ -43,10 +43,12 @@ pub data Found : Type 0 where
   at : ℕ → Found
   nowhere : Found
 
+-- the first of two places
 abbrev pub orElse : Found → Found → Found
 orElse (at j) o = at j
 orElse nowhere o = o
 
+-- place m where A holds
 abbrev pub here : {A : Type 0} → Dec A → ℕ → Found
 here (yes a) m = at m
 here (no h) m = nowhere

@@ -2,7 +2,7 @@
 use mathlib.Core.Path.{_≡_, refl, sym, ap, ap₂, _∙_, subst, subst₂}
 use mathlib.Core.Bool.{true, false}
 use mathlib.Core.List.{List, _++_, append-assoc}
-use Prim.Native.Nat.{ℕ, suc, _+_, _-_, _*_, _%_, _^_, _≤_, _<_}
+use Prim.Native.Nat.{ℕ, _+_, _-_, _*_, _%_, _^_, _≤_, _<_}
 use native.Mathlib.Decide.{ℕ-discrete}
 use native.Mathlib.Nat.{le-refl, sub-self}
 use native.Mathlib.Omega.{arith}
@@ -35,7 +35,7 @@ use Rattle.plain.specs.declared.Scan.{Scan}
 use Rattle.plain.specs.declared.Found.{Found}
 use Rattle.plain.specs.declared.Found.the-variants.{At, Nowhere}
 use Rattle.sheet.specs.Meaning.{Levelled}
-use Rattle.sheet.specs.Laws.{Stepped}
+use Rattle.sheet.specs.Laws.{Stepped, one-raised}
 use Rattle.sheet.specs.LayoutLaws.{cells-are}
 use Rattle.sheet.specs.StageLaws.{AtStage, stage-sound, sound-stage, decode-at, dark-zero}
 use Rattle.sheet.specs.ZeroLaws.{cells-in, to-rules, from-rules}
@@ -61,9 +61,6 @@ front-store k c j b f h l =
     ∙ ap (λ (x : List ℕ). p ++ x) (append-assoc b (drop (j * k + k) (take c f)) (drop c f) ∙ ap (λ (x : List ℕ). b ++ x) q)
 
 -- ---- the change at stage 0
-
-one-raised : {a b : ℕ} → a ≡ suc b → 1 ≡ a - b
-one-raised e = omega arith
 
 module _ (r : Settings) (p : StagedFacts r) (f : List ℕ) (v : Levelled r f) (a : AtStage r f nowhere) (c : ℕ) (e : c ≡ r .m * 2 ^ r .s) (s : Scan) (h : Scanned (r .k) (r .top) (r .m) (take c f) s) where
   -- blocks that break the rules break them for the sheet
