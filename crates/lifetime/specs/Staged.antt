@@ -12,13 +12,12 @@ use Rattle.laws.specs.Chop.{chop-join, chop-sized, join-chop, length-chop, leng
 use Rattle.laws.specs.Halve.{plain-live}
 use Rattle.laws.specs.Lists.{getD-tabulate, length-tabulate, sum-replicate}
 use Rattle.laws.specs.Parity.{count-width, even-width, half-live, half-power, stage0-few}
-use Rattle.laws.specs.PlainMaps.{few}
-use Rattle.laws.specs.Stage.{Forth, Sized, Used, full-sums, names-few, record-le, same, sums, used-append}
+use Rattle.laws.specs.Stage.{Forth, Sized, Used, full-sums, names-few, record-le, sums, used-append}
 use Rattle.lifetime.specs.Move.{Bits, entries-even, entries-names, entries-read, entries-used, indexes-pad, length-entries, record-sized}
 use Rattle.lifetime.specs.Up.{record-up, up-join}
 use Rattle.lifetime.specs.Within.{InLaw, Stands, in-law}
 use Rattle.rules.specs.Cells.{Low, Rises, chop, join, sum, tabulate}
-use Rattle.rules.specs.Search.{Result, done, here, noPlace}
+use Rattle.rules.specs.Search.{Result, done, noPlace}
 use Rattle.rules.specs.SearchLaws.{pick-elim, pick-no, pick-yes}
 use Rattle.rules.specs.Stage.{Entry, Names, Within, beyond, changeWithin, closed, indexes, liveWeights, recordAll, recordedEntries, stay, valueOf, weightOf}
 use Rattle.rules.specs.Staged.{Sheet, after, change, fromStage0, fromStaged, later, moveTo, parityBlocks, parityCount, parityLength, read, stage0, staged}
@@ -49,6 +48,7 @@ abbrev pub levels : Sheet → ℕ
 levels x = sum (blockCells x)
 
 module _ (s m L : ℕ) where
+  -- a stage from 1 up that keeps its rules, in use
   pub record StagedFits (d : ℕ) (xs : List ℕ) (es : List Entry) : Type 0 where
     pub stage : d < s - 1
     pub long : length xs ≡ m * 2 ^ s
@@ -57,6 +57,7 @@ module _ (s m L : ℕ) where
     pub full : length es ≡ 2 * (2 ^ s - 1)
     pub used : Used es
 
+  -- a sheet that keeps the rules of its stage
   abbrev pub Fits : Sheet → Type 0
   Fits (stage0 xs) = P.Accepted (2 ^ s) L m (m * 2 ^ s) xs
   Fits (staged d xs es) = StagedFits d xs es
@@ -72,6 +73,7 @@ module _ (s m L : ℕ) where
   forward-later (stage0 xs) (staged d ys fs) h = tt
   forward-later (staged e xs es) (staged d ys fs) h = inl h
 
+  -- what a change of bit i that is made does
   pub record Changed (i : ℕ) (x y : Sheet) : Type 0 where
     pub forward : Forward x y
     pub fits : Fits y
@@ -82,6 +84,7 @@ module _ (s m L : ℕ) where
     -- a stage is paid for with k - 1 levels
     pub pays : levels y + (2 ^ s - 1) * stagesLeft s y ≤ suc (levels x + (2 ^ s - 1) * stagesLeft s x)
 
+  -- what a change comes to: it is so, or the levels of the m blocks are nearly all raised
   abbrev pub ReplyLaw : ℕ → Sheet → Result Sheet → Type 0
   ReplyLaw i x (done y) = Changed i x y
   ReplyLaw i x noPlace = m * 2 ^ s * L ≤ levels x + (2 ^ s - 1) * (2 * L)
