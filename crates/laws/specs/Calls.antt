@@ -102,7 +102,8 @@ then-goes d e = ap (λ (x : Check). andThen x d) e
 then-passes : {c d : Check} → c ≡ Pass → d ≡ Pass → andThen c d ≡ Pass
 then-passes {c} {d} p q = ap (λ (x : Check). andThen x d) p ∙ q
 
-level-passes : (L : ℕ) (xs : List ℕ) → Low L xs → levelCheck (firstAbove L xs) ≡ Pass
+-- no cell above L passes check 5
+pub level-passes : (L : ℕ) (xs : List ℕ) → Low L xs → levelCheck (firstAbove L xs) ≡ Pass
 unfolding firstAbove
 level-passes L xs h = ap levelCheck (first-eq (λ c. decLt L (getD xs c 0)) (length xs) (miss (λ c l q. let z : getD xs c 0 ≤ L = low-at L xs h c in omega arith)))
 
