@@ -10,15 +10,7 @@ fn record_of(numbers: &[usize]) -> Settings
     ensures { λ r. ⌜ r ≡ recordOf (now (numbers .entry)) ⌝ }
 {
     if numbers.len() != 7 {
-        return Settings {
-            kind: 0,
-            k: 0,
-            top: 0,
-            n: 0,
-            m: 0,
-            s: 0,
-            w: 0,
-        };
+        return rules::REFUSED;
     }
     Settings {
         kind: numbers[0],
