@@ -47,6 +47,7 @@ static int take(byte *to, size count) {
     return 1;
 }
 
+/* Gives exactly so many bytes; 0 if the output is closed. */
 static int give(const byte *from, size count) {
     while (count > 0) {
         long put = write(1, from, count);

@@ -1,8 +1,6 @@
 // The C interface: the four calls over numbers and lent bytes. A settings record crosses as seven numbers that the caller owns. Assumes nothing.
 use rules::Settings;
 ghost use mathlib.Core.Path.{_≡_};
-ghost use Prim.Native.Nat.{_≤_, _<_};
-ghost use lib.ListN.{length};
 ghost use Rattle.rules.specs.Answer.{numberOf, valueOf};
 ghost use Rattle.rules.specs.Calls.{settingsCall, eraseCall, readCall, changeCall};
 ghost use Rattle.capi.specs.Meaning.{recordOf, answerInto, recordInto};
@@ -12,15 +10,7 @@ fn record_of(numbers: &[usize]) -> Settings
     ensures { λ r. ⌜ r ≡ recordOf (now (numbers .entry)) ⌝ }
 {
     if numbers.len() != 7 {
-        return Settings {
-            kind: 0,
-            k: 0,
-            top: 0,
-            n: 0,
-            m: 0,
-            s: 0,
-            w: 0,
-        };
+        return rules::REFUSED;
     }
     Settings {
         kind: numbers[0],

@@ -6,17 +6,6 @@ ghost use Prim.Native.Nat.{_+_, _≤_, _<_};
 ghost use lib.ListN.{length};
 ghost use Rattle.io.specs.Counts.{Counts};
 
-// The settings held while there is no sheet.
-const NONE: Settings = Settings {
-    kind: 0,
-    k: 0,
-    top: 0,
-    n: 0,
-    m: 0,
-    s: 0,
-    w: 0,
-};
-
 // The bytes of a record.
 const RECORD: usize = 8;
 
@@ -148,7 +137,7 @@ fn obey_piece(bytes: &[u8], start: Settings, cells: &mut [u8], out: &mut [u8]) -
     held
 }
 
-// The input in large pieces; only the last can end within a record.
+// The input in large pieces; only the last can end within a record. At first there is no sheet, and the record of zeros is held.
 fn main() {
     let mut space = [0u8; 16384];
     let cells: &mut [u8] = &mut space;
@@ -156,7 +145,7 @@ fn main() {
     let bytes: &mut [u8] = &mut input;
     let mut output = [0u8; 65536];
     let out: &mut [u8] = &mut output;
-    let mut held = NONE;
+    let mut held = rules::REFUSED;
     let mut turns = u64::MAX;
     while turns > 0 {
         let n = io::read_full(0, bytes);

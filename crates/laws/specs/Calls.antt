@@ -1,16 +1,16 @@
 -- What a call's answer tells: which checks passed, and what the maps gave. Assumes nothing.
-use mathlib.Core.Path.{_≡_, refl, sym, ap, _∙_, subst}
+use mathlib.Core.Path.{_≡_, refl, sym, ap, _∙_}
 use mathlib.Core.List.{List}
-use Prim.Native.Nat.{ℕ, suc, _+_, _-_, _≤_, _<_}
+use Prim.Native.Nat.{ℕ, _-_, _≤_, _<_}
 use native.Mathlib.Decide.{ℕ-discrete, decLe, decLt}
 use native.Mathlib.Omega.{arith}
 use Rattle.laws.specs.Lists.{low-all, low-at}
 use lib.ListN.{length, getD, replicate}
-use Rattle.rules.specs.Search.{pick, Found, at, nowhere, first, Result, done, noPlace}
+use Rattle.rules.specs.Search.{Found, at, nowhere, Result, done, noPlace}
 use Rattle.rules.specs.SearchLaws.{pick-yes, pick-no, First, hit, miss, first-is, first-eq}
 use Rattle.rules.specs.Cells.{sum, Low, firstAbove}
 use Rattle.rules.specs.Accept.{Genuine, genuine?, guarantee}
-use Rattle.rules.specs.Calls.{Sound, sound?, changeSheet, ask, andThen, levelCheck, checkShape, checkLength, checkOutput, checkBit, checkLevels, checkSheet, eraseChecks, readChecks, changeChecks, Outcome, erasing, eraseCall, changed, changing, changeCall, Reading, reading, readCall}
+use Rattle.rules.specs.Calls.{Sound, sound?, changeSheet, ask, andThen, levelCheck, checkShape, checkLength, checkOutput, checkBit, checkLevels, checkSheet, eraseChecks, readChecks, changeChecks, Outcome, erasing, eraseCall, changed, changing, changeCall, reading, readCall}
 use Rattle.rules.specs.declared.Settings.{Settings}
 use Rattle.rules.specs.declared.Answer.{Answer}
 use Rattle.rules.specs.declared.Answer.the-variants.{Done, BadShape, BadLength, ShortOutput, BadBit, BadLevel, BadSheet, Erase, BadRecord}
@@ -87,6 +87,7 @@ change-checks r xs i = weaker (λ p. (accepted-from r xs (p .0) (p .1 .0) (p .1 
 pub ask-fails : {A : Type 0} (d : Dec A) (a : Answer) → ¬ A → ask d a ≡ Refuse a
 ask-fails d a h = pick-no d Pass (Refuse a) h
 
+-- a check that holds passes
 pub ask-passes : {A : Type 0} (d : Dec A) (a : Answer) → A → ask d a ≡ Pass
 ask-passes d a h = pick-yes d Pass (Refuse a) h
 
@@ -101,7 +102,8 @@ then-goes d e = ap (λ (x : Check). andThen x d) e
 then-passes : {c d : Check} → c ≡ Pass → d ≡ Pass → andThen c d ≡ Pass
 then-passes {c} {d} p q = ap (λ (x : Check). andThen x d) p ∙ q
 
-level-passes : (L : ℕ) (xs : List ℕ) → Low L xs → levelCheck (firstAbove L xs) ≡ Pass
+-- no cell above L passes check 5
+pub level-passes : (L : ℕ) (xs : List ℕ) → Low L xs → levelCheck (firstAbove L xs) ≡ Pass
 unfolding firstAbove
 level-passes L xs h = ap levelCheck (first-eq (λ c. decLt L (getD xs c 0)) (length xs) (miss (λ c l q. let z : getD xs c 0 ≤ L = low-at L xs h c in omega arith)))
 
@@ -159,6 +161,7 @@ module _ (r : Settings) (xs out : List ℕ) (p : eraseChecks r xs ≡ Pass) wher
   rest-read : {c : Check} → readRest r xs out ≡ c → readCall r xs out ≡ reading r xs out c
   rest-read e = read-first r xs out p ∙ ap (reading r xs out) e
 
+  -- too few places
   pub read-short : ¬ (r .k ≤ length out) → readCall r xs out ≡ record { answer = ShortOutput; places = out }
   read-short h = rest-read (then-ends _ (ask-fails (decLe (r .k) (length out)) ShortOutput h))
 
@@ -166,9 +169,11 @@ module _ (r : Settings) (xs out : List ℕ) (p : eraseChecks r xs ≡ Pass) wher
     pub read-level : (c : ℕ) → firstAbove (r .top) xs ≡ at c → readCall r xs out ≡ record { answer = BadLevel c; places = out }
     read-level c e = rest-read (then-goes _ (ask-passes (decLe (r .k) (length out)) ShortOutput l) ∙ then-ends _ (ap levelCheck e))
 
+    -- the sheet rules broken
     pub read-broken : firstAbove (r .top) xs ≡ nowhere → ¬ (Sound r xs) → readCall r xs out ≡ record { answer = BadSheet; places = out }
     read-broken e h = rest-read (then-goes _ (ask-passes (decLe (r .k) (length out)) ShortOutput l) ∙ then-goes _ (ap levelCheck e) ∙ ask-fails (sound? r xs) BadSheet h)
 
+    -- every check passed
     pub read-sound : firstAbove (r .top) xs ≡ nowhere → Sound r xs → readCall r xs out ≡ reading r xs out Pass
     read-sound e h = rest-read (then-goes _ (ask-passes (decLe (r .k) (length out)) ShortOutput l) ∙ then-goes _ (ap levelCheck e) ∙ ask-passes (sound? r xs) BadSheet h)
 
@@ -176,6 +181,7 @@ module _ (r : Settings) (xs : List ℕ) (i : ℕ) (p : eraseChecks r xs ≡ Pass
   rest-change : {c : Check} → changeRest r xs i ≡ c → changeCall r xs i ≡ changing r xs i c
   rest-change e = change-first r xs i p ∙ ap (changing r xs i) e
 
+  -- no such bit
   pub change-bit : ¬ (i < r .k) → changeCall r xs i ≡ record { answer = BadBit; sheet = xs }
   change-bit h = rest-change (then-ends _ (ask-fails (decLt i (r .k)) BadBit h))
 
@@ -191,6 +197,7 @@ module _ (r : Settings) (xs : List ℕ) (i : ℕ) (p : eraseChecks r xs ≡ Pass
 pub sheet-broken : (r : Settings) (xs : List ℕ) (i : ℕ) → ¬ (Sound r xs) → changing r xs i (checkSheet r xs) ≡ record { answer = BadSheet; sheet = xs }
 sheet-broken r xs i h = ap (changing r xs i) (ask-fails (sound? r xs) BadSheet h)
 
+-- and on a sheet that keeps them, a change is what the encoding map makes
 pub sheet-maps : (r : Settings) (xs : List ℕ) (i : ℕ) {q : Result (List ℕ)} → Sound r xs → changeSheet r xs i ≡ q → changing r xs i (checkSheet r xs) ≡ changed xs q
 sheet-maps r xs i h e = ap (changing r xs i) (ask-passes (sound? r xs) BadSheet h) ∙ ap (changed xs) e
 

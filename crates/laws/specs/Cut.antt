@@ -21,10 +21,12 @@ pub part-block : (w : ℕ) (xs : List ℕ) (j : ℕ) → take (j * w + w - j * w
 unfolding block
 part-block w xs j = let q : j * w + w - j * w ≡ w = omega arith in ap (λ (n : ℕ). take n (drop (j * w) xs)) q
 
+-- no level of a block is above L
 pub low-block : (L w : ℕ) (xs : List ℕ) (j : ℕ) → Low L xs → Low L (block w xs j)
 unfolding block
 low-block L w xs j h = low-take L w (drop (j * w) xs) (low-drop L (j * w) xs h)
 
+-- nor of cells with a block stored
 pub low-store : (L w : ℕ) (xs : List ℕ) (j : ℕ) (b : List ℕ) → Low L xs → Low L b → Low L (store w xs j b)
 unfolding store
 low-store L w xs j b h l = low-append L (take (j * w) xs) (b ++ drop (j * w + w) xs) (low-take L (j * w) xs h) (low-append L b (drop (j * w + w) xs) l (low-drop L (j * w + w) xs h))
@@ -43,6 +45,7 @@ module _ (w : ℕ) (xs : List ℕ) (j : ℕ) (fits : j * w + w ≤ length xs) wh
   at-front : length (take (j * w) xs) ≡ j * w
   at-front = length-take-le (j * w) xs (omega arith)
 
+  -- a block has w cells
   pub length-block : length (block w xs j) ≡ w
   unfolding block
   length-block = length-take-le w (drop (j * w) xs) (omega (arith, length-drop (j * w) xs))
@@ -73,10 +76,12 @@ module _ (w : ℕ) (xs : List ℕ) (j : ℕ) (fits : j * w + w ≤ length xs) wh
         ∙ drop-drop (n - length (take (j * w) xs ++ b)) (j * w + w) xs
         ∙ ap (λ (x : ℕ). drop x xs) c
 
+    -- there are as many cells as before
     pub length-store : length (store w xs j b) ≡ length xs
     unfolding store
     length-store = omega (arith, length-append (take (j * w) xs) (b ++ drop (j * w + w) xs), length-append b (drop (j * w + w) xs), at-front, length-drop (j * w + w) xs)
 
+    -- no other block moves
     pub store-other : (x : ℕ) → x ≢ j → block w (store w xs j b) x ≡ block w xs x
     unfolding block store
     store-other x d = go (decLt x j)
@@ -89,6 +94,7 @@ module _ (w : ℕ) (xs : List ℕ) (j : ℕ) (fits : j * w + w ≤ length xs) wh
             ∙ ap (λ (r : List ℕ). block w r x) (take-append-drop (j * w) xs)
         go (no l) = ap (take w) (store-past (x * w) (omega (arith, mul-le-mul-right {m = suc j} {n = x} w (omega arith))))
 
+    -- the sum changes by the block's
     pub store-sum : sum (store w xs j b) + sum (block w xs j) ≡ sum xs + sum b
     unfolding store
     store-sum =
@@ -97,6 +103,7 @@ module _ (w : ℕ) (xs : List ℕ) (j : ℕ) (fits : j * w + w ≤ length xs) wh
         let e₀ : sum (p ++ (block w xs j ++ q)) ≡ sum xs = ap sum store-back in
         omega (arith, e₀, sum-append p (b ++ q), sum-append b q, sum-append p (block w xs j ++ q), sum-append (block w xs j) q)
 
+    -- where the block's levels do not fall, none falls
     pub store-rises : Rises (block w xs j) b → Rises xs (store w xs j b)
     unfolding store
     store-rises h = subst (λ (r : List ℕ). Rises r (store w xs j b)) store-back
@@ -105,10 +112,12 @@ module _ (w : ℕ) (xs : List ℕ) (j : ℕ) (fits : j * w + w ≤ length xs) wh
 
 -- ---- the sum of the first m blocks
 
+-- the sum of the first m blocks
 abbrev pub blockSum : ℕ → List ℕ → ℕ → ℕ
 blockSum w xs zero = 0
 blockSum w xs (suc m) = blockSum w xs m + sum (block w xs m)
 
+-- is that of their cells
 pub sum-blocks : (w m : ℕ) (xs : List ℕ) → sum (take (m * w) xs) ≡ blockSum w xs m
 unfolding block
 sum-blocks w zero xs = ap (λ (n : ℕ). sum (take n xs)) (zero-mul w)

@@ -10,10 +10,9 @@ use lib.ListN.{length}
 use Rattle.laws.specs.Distinct.{Below, Distinct, pigeon-absent}
 use Rattle.rules.specs.Block.{State, active, broken, empty, full, grown, next}
 use Rattle.rules.specs.Plain.{HasBit, IsEmpty, NoRepeat, Plan, SameBit, bitOf, erase, hasBit?, isEmpty?, plan, planFrom, put, valueAt, weight}
-use Rattle.rules.specs.Search.{Found, at, first, here, nowhere}
+use Rattle.rules.specs.Search.{Found, at, first, nowhere}
 use Rattle.rules.specs.SearchLaws.{First, first-is, hit, miss}
 use Rattle.rules.specs.Stage.{Absent}
-use Rattle.rules.specs.Staged.{after}
 
 -- the sum of a number of each block
 abbrev pub tally : (State → ℕ) → (ℕ → State) → ℕ → ℕ
@@ -61,6 +60,7 @@ lawful-from k F m st o a = record {
       omega arith;
 }
 
+-- lawful states have no bit twice
 pub no-repeat : (k F m : ℕ) (st : ℕ → State) → Lawful k F m st → NoRepeat m st
 no-repeat k F m st g j l x q c =
     let r : (i : ℕ) × HasBit i (st x) × HasBit i (st j) = bit-same (st x) (st j) c in
@@ -110,6 +110,7 @@ module _ (F m i : ℕ) (st : ℕ → State) where
   plan-from-is (miss b) (hit j l h c) = new j l (empty-view (st j) h) b
   plan-from-is (miss b) (miss c) = out b c
 
+  -- the plan of the rules is so
   pub plan-is : Planned F m i st (plan F st m i)
   unfolding plan
   plan-is = plan-from-is (first-is (λ j. hasBit? i (st j)) m) (first-is (λ j. isEmpty? (st j)) m)
@@ -120,6 +121,7 @@ module _ (F m i : ℕ) (st : ℕ → State) where
       subst (λ (s : State). Reads m i st (weight F s % 2)) (sym (v .1)) (from j (v .0) l (v .1))
   value-is (miss b) = none b
 
+  -- the value of the rules is so
   pub bit-is : Reads m i st (bitOf F st m i)
   unfolding bitOf
   bit-is = value-is (first-is (λ j. hasBit? i (st j)) m)
@@ -129,6 +131,7 @@ module _ (F m i : ℕ) (st : ℕ → State) where
   value-two (at j) = mod-lt (weight F (st j)) (omega arith)
   value-two nowhere = omega arith
 
+  -- it is 0 or 1
   pub bit-two : bitOf F st m i < 2
   unfolding bitOf
   bit-two = value-two (first (λ j. hasBit? i (st j)) m)
@@ -137,6 +140,7 @@ module _ (F m i : ℕ) (st : ℕ → State) where
 to-bit : {i v : ℕ} {s : State} → s ≡ active i v → HasBit i s
 to-bit {i} e = subst (λ (s : State). HasBit i s) (sym e) refl
 
+-- lawful states have one reading
 pub reads-one : {k F m i a b : ℕ} {st : ℕ → State} → Lawful k F m st → Reads m i st a → Reads m i st b → a ≡ b
 reads-one {i = i} g (from j v l e) (from j′ v′ l′ e′) =
     let q : j ≡ j′ = g .apart i j j′ l l′ (to-bit e) (to-bit e′) in
@@ -148,7 +152,7 @@ reads-one g (none h) (none h′) = refl
 
 -- ---- the laws of one accepted change
 
--- what a move does to the sheet
+-- state s at block j, for a change of bit i: what makes it a change of that bit alone
 pub record Legal (k F m i : ℕ) (st : ℕ → State) (j : ℕ) (s : State) : Type 0 where
   pub place : j < m
   pub fits : Proper k F s
@@ -188,6 +192,7 @@ module _ (k F m i : ℕ) (even : F % 2 ≡ 0) (big : 1 < F) (here : i < k) (st :
   others : (j v : ℕ) → j < m → st j ≡ active i v → (x : ℕ) → x < m → x ≢ j → ¬ (HasBit i (st x))
   others j v l e x lx d h = d (g .apart i x j lx l h (to-bit e))
 
+  -- a plan puts a legal state
   pub legal : {j : ℕ} {s : State} → Planned F m i st (put j s) → Legal k F m i st j s
   legal (own j v l e) =
       let o : Proper k F (active i v) = subst (Proper k F) e (g .proper j l) in
@@ -238,6 +243,7 @@ module _ (f : State → ℕ) {m j : ℕ} {s : State} {st st′ : ℕ → State} 
       go (inl e) r = omega (arith, low n (omega arith), ap (λ (x : ℕ). f (st′ x)) (sym e) ∙ ap f (u .there), ap (λ (x : ℕ). f (st x)) e)
       go (inr q) r = omega (arith, r q, ap f (u .rest n (omega arith) (omega arith)))
 
+  -- a tally after one state is put
   pub tally-upd : tally f st′ m + f (st j) ≡ tally f st m + f s
   tally-upd = high m (u .place) (le-refl m)
 
@@ -267,11 +273,7 @@ module _ (k F m i j : ℕ) (s : State) (st st′ : ℕ → State) (g : Lawful k 
   pub keeps : (x : ℕ) → x ≢ i → bitOf F st′ m x ≡ bitOf F st m x
   keeps x d = reads-one stays (bit-is F m x st′) (same-reads d (bit-is F m x st))
 
-  -- the sum rises by 1
-  pub adds : total F st′ m ≡ suc (total F st m)
-  adds = omega (arith, tally-upd (weight F) u, y .heavier)
-
--- ---- an erased sheet is not asked for before (m - k + 1) F + k - 1 changes
+-- ---- Erase is not answered before (m - k + 1) F + k - 1 changes
 
 -- the bits of the active blocks
 abbrev pub noteBit : State → List ℕ → List ℕ
@@ -341,6 +343,7 @@ module _ (k F : ℕ) (st : ℕ → State) where
   bits-heavy (suc m) g h = note-heavy k F m (total F st m) (st m) (activeBits st m) (g .proper m (le-refl (suc m))) (h m (le-refl (suc m)))
       (bits-heavy m (shrink g) (λ x l. h x (omega arith)))
 
+  -- without a block of bit i they are fewer than k
   pub bits-few : (m i : ℕ) → i < k → Lawful k F m st → NoBlock m i st → length (activeBits st m) < k
   bits-few m i l g n = pigeon-absent k i (activeBits st m) l (bits-out i m st n) (bits-distinct m g) (bits-below m g)
 

@@ -7,17 +7,18 @@ use native.Mathlib.Decide.{ℕ-discrete}
 use native.Mathlib.Nat.{le-refl, mul-le-mul-right}
 use native.Mathlib.Omega.{arith}
 use lib.ListN.{drop, length, length-replicate, replicate, take}
-use Rattle.laws.specs.Block.{Means, cycle-full, cycle-low, cycle-rises, cycle-zero, length-cycle, rises, state-means, state-one, sum-cycle}
+use Rattle.laws.specs.Block.{Means, cycle-full, cycle-low, cycle-rises, cycle-zero, length-cycle, state-means, state-one, sum-cycle}
 use Rattle.laws.specs.Cut.{blockSum, length-store, store-other, store-past, store-rises, store-same, store-sum, sum-blocks, sum-split}
 use Rattle.laws.specs.Lists.{drop-replicate, low-append, low-drop, low-replicate, low-take, sum-replicate, take-replicate}
-use Rattle.laws.specs.PlainMaps.{Lawful, Legal, Planned, Proper, Update, adds, bit-two, erase-late, flips, keeps, lawful-from, legal, new, no-repeat, own, plan-is, stays, total}
+use Rattle.laws.specs.PlainMaps.{Lawful, Legal, Planned, Proper, Update, bit-two, erase-late, flips, keeps, lawful-from, legal, new, no-repeat, own, plan-is, stays, total}
 use Rattle.rules.specs.Block.{State, active, broken, cellsOf, cycle, empty, full, grown, next, stateOf}
 use Rattle.rules.specs.Cells.{Low, Rises, block, store, sum}
 use Rattle.rules.specs.Plain.{BlocksOk, HasBit, OnCycle, Plan, carryOut, change, erase, plan, put, read, states, weight}
-use Rattle.rules.specs.Search.{Result, done, here, noPlace}
+use Rattle.rules.specs.Search.{Result, done, noPlace}
 
 -- ---- the maps D0 and E0
 
+-- a reading is 0 or 1
 pub read-two : (k L m : ℕ) (xs : List ℕ) (i : ℕ) → read k L m xs i < 2
 unfolding read
 read-two k L m xs i = bit-two (k * L) m i (states k L xs)
@@ -42,16 +43,19 @@ on-cycle k F full o = tt
 on-cycle k F broken o = o
 on-cycle k F (active i v) o = tt
 
+-- blocks that keep the rules have lawful states
 pub blocks-lawful : (k L m : ℕ) (xs : List ℕ) → 0 < k → 0 < L → BlocksOk k L m xs → Lawful k (k * L) m (states k L xs)
 unfolding states
 blocks-lawful k L m xs h g b = lawful-from k (k * L) m (states k L xs)
     (λ j l. proper-from k L (stateOf k L (block k xs j)) (block k xs j) (b .0 j l) (state-means k L h g (block k xs j))) (b .1)
 
+-- and conversely
 pub lawful-blocks : (k L m : ℕ) (xs : List ℕ) → Lawful k (k * L) m (states k L xs) → BlocksOk k L m xs
 lawful-blocks k L m xs a = (λ j l. on-cycle k (k * L) (states k L xs j) (a .proper j l), no-repeat k (k * L) m (states k L xs) a)
 
 -- ---- an accepted change
 
+-- what a change of bit i that is made does
 pub record Changed (k L m n i : ℕ) (xs ys : List ℕ) : Type 0 where
   pub stays : Accepted k L m n ys
   pub flips : read k L m ys i ≡ 1 - read k L m xs i
@@ -131,9 +135,9 @@ module _ (k L m n : ℕ) (two : 1 < k) (g : 0 < L) (even : k * L % 2 ≡ 0) (roo
         subst (λ (s : State). Rises (cellsOf k L s) (cycle k L i 1)) (sym e)
         (subst (λ (r : List ℕ). Rises r (cycle k L i 1)) (cycle-zero k L i (omega arith)) (cycle-rises k L i (omega arith) 0 1 (omega arith)))
 
-    move-law : (j : ℕ) (s : State) → Planned (k * L) m i (states k L xs) (put j s) → Changed k L m n i xs (store k xs j (cellsOf k L s))
+    put-law : (j : ℕ) (s : State) → Planned (k * L) m i (states k L xs) (put j s) → Changed k L m n i xs (store k xs j (cellsOf k L s))
     unfolding read store
-    move-law j s p =
+    put-law j s p =
         let st : ℕ → State = states k L xs in
         let y : Legal k (k * L) m i st j s = legal k (k * L) m i even big here st (a .lawful) p in
         let u : Update m st (states k L (store k xs j (cellsOf k L s))) j s = upd j s (y .place) (y .fits) in
@@ -154,7 +158,7 @@ module _ (k L m n : ℕ) (two : 1 < k) (g : 0 < L) (even : k * L % 2 ≡ 0) (roo
         }
 
     answer-law : (p : Plan) → Planned (k * L) m i (states k L xs) p → (ys : List ℕ) → carryOut k L xs p ≡ done ys → Changed k L m n i xs ys
-    answer-law (put j s) q ys e = subst (λ (r : List ℕ). Changed k L m n i xs r) (cc) (move-law j s q)
+    answer-law (put j s) q ys e = subst (λ (r : List ℕ). Changed k L m n i xs r) (cc) (put-law j s q)
     answer-law erase q ys e = absurd (let z : _≡_ {A = ℕ} 0 1 = cc in omega arith)
 
     -- after an accepted change of bit i
@@ -162,11 +166,12 @@ module _ (k L m n : ℕ) (two : 1 < k) (g : 0 < L) (even : k * L % 2 ≡ 0) (roo
     unfolding change
     change-law ys e = answer-law (plan (k * L) (states k L xs) m i) (plan-is (k * L) m i (states k L xs)) ys e
 
-    -- the levels sum to the weights
+    -- the levels of the first x blocks sum to their weights
     sum-total : (x : ℕ) → x ≤ m → blockSum k xs x ≡ total (k * L) (states k L xs) x
     sum-total zero l = refl
     sum-total (suc x) l = omega (arith, sum-total x (omega arith), ap sum (block-cells x l), sum-cells (states k L xs x) (a .lawful .proper x l))
 
+    -- so those of the sheet sum to the weights of its blocks
     pub sum-states : sum xs ≡ total (k * L) (states k L xs) m
     sum-states = omega (arith, sum-split (m * k) xs, sum-blocks k m xs, ap sum (a .spare), sum-replicate (n - m * k) 0, sum-total m (le-refl m))
 
@@ -174,40 +179,45 @@ module _ (k L m n : ℕ) (two : 1 < k) (g : 0 < L) (even : k * L % 2 ≡ 0) (roo
     late q (put j s) h e = absurd (let z : _≡_ {A = ℕ} 0 1 = cc in omega arith)
     late q erase h e = omega (arith, sum-states, erase-late k (k * L) (states k L xs) m i here (omega (arith, big)) q (a .lawful) h)
 
+    -- no place: at least as many levels are raised as are guaranteed
     pub no-place-law : k ≤ m → change k L m i xs ≡ noPlace → (m - k + 1) * (k * L) + (k - 1) ≤ sum xs
     unfolding change
     no-place-law q e = late q (plan (k * L) (states k L xs) m i) (plan-is (k * L) m i (states k L xs)) e
 
     -- which block an accepted change sets, and to what
-    move-how : (p : Plan) → Planned (k * L) m i (states k L xs) p → (ys : List ℕ) → carryOut k L xs p ≡ done ys
+    put-how : (p : Plan) → Planned (k * L) m i (states k L xs) p → (ys : List ℕ) → carryOut k L xs p ≡ done ys
         → (j : ℕ) × (s : State) × Planned (k * L) m i (states k L xs) (put j s) × Update m (states k L xs) (states k L ys) j s
-    move-how (put j s) q ys e =
+    put-how (put j s) q ys e =
         let y : Legal k (k * L) m i (states k L xs) j s = legal k (k * L) m i even big here (states k L xs) (a .lawful) q in
         (j, s, q, subst (λ (r : List ℕ). Update m (states k L xs) (states k L r) j s) (cc) (upd j s (y .place) (y .fits)))
-    move-how erase q ys e = absurd (let z : _≡_ {A = ℕ} 0 1 = cc in omega arith)
+    put-how erase q ys e = absurd (let z : _≡_ {A = ℕ} 0 1 = cc in omega arith)
 
+    -- a change made puts one state
     pub change-how : (ys : List ℕ) → change k L m i xs ≡ done ys → (j : ℕ) × (s : State) × Planned (k * L) m i (states k L xs) (put j s) × Update m (states k L xs) (states k L ys) j s
     unfolding change
-    change-how ys e = move-how (plan (k * L) (states k L xs) m i) (plan-is (k * L) m i (states k L xs)) ys e
+    change-how ys e = put-how (plan (k * L) (states k L xs) m i) (plan-is (k * L) m i (states k L xs)) ys e
 
     no-place-how₁ : (p : Plan) → Planned (k * L) m i (states k L xs) p → carryOut k L xs p ≡ noPlace → Planned (k * L) m i (states k L xs) erase
     no-place-how₁ (put j s) q e = absurd (let z : _≡_ {A = ℕ} 0 1 = cc in omega arith)
     no-place-how₁ erase q e = q
 
+    -- no place is the plan to erase
     pub no-place-how : change k L m i xs ≡ noPlace → Planned (k * L) m i (states k L xs) erase
     unfolding change
     no-place-how e = no-place-how₁ (plan (k * L) (states k L xs) m i) (plan-is (k * L) m i (states k L xs)) e
 
     answered : (p : Plan) → Planned (k * L) m i (states k L xs) p → AnswerLaw k L m n i xs (carryOut k L xs p)
-    answered (put j s) q = move-law j s q
+    answered (put j s) q = put-law j s q
     answered erase q = λ r. late r erase q refl
 
+    -- whatever the change comes to
     pub answer-all : AnswerLaw k L m n i xs (change k L m i xs)
     unfolding change
     answer-all = answered (plan (k * L) (states k L xs) m i) (plan-is (k * L) m i (states k L xs))
 
   -- ---- runs from the erased sheet
 
+  -- every block of an erased sheet is empty
   pub blank : (j : ℕ) → j < m → states k L (replicate n 0) j ≡ empty
   unfolding states block
   blank j l =
@@ -215,6 +225,7 @@ module _ (k L m n : ℕ) (two : 1 < k) (g : 0 < L) (even : k * L % 2 ≡ 0) (roo
       state-one k L (omega arith) g empty (take k (drop (j * k) (replicate n 0)))
       (ap (take k) (drop-replicate (j * k) n 0 (omega arith)) ∙ take-replicate k (n - j * k) 0 (omega arith))
 
+  -- an erased sheet is accepted
   pub start : Accepted k L m n (replicate n 0)
   start = record {
     long = length-replicate n 0;
@@ -232,6 +243,7 @@ pub data Run (k L m n : ℕ) : ℕ → List ℕ → Type 0 where
   more : (c i : ℕ) (xs ys : List ℕ) → Run k L m n c xs → i < k → change k L m i xs ≡ done ys → Run k L m n (suc c) ys
 
 module _ (k L m n : ℕ) (two : 1 < k) (g : 0 < L) (even : k * L % 2 ≡ 0) (room : m * k ≤ n) where
+  -- in a run the sheet stays accepted, and its levels sum to the number of changes
   pub run-law : {c : ℕ} {xs : List ℕ} → Run k L m n c xs → Accepted k L m n xs × (sum xs ≡ c)
   run-law begin = (start k L m n two g even room, sum-replicate n 0 ∙ omega arith)
   run-law (more c i xs ys r h e) =

@@ -9,18 +9,15 @@ use native.Mathlib.Omega.{arith}
 use lib.ListN.{drop, drop-of-length-le, length, length-append, length-drop, length-map, length-replicate, replicate, take, take-append-drop}
 use lib.Pow.{pow-pos}
 use lib.Seq.{drop-append-add, drop-at, drop-drop, length-take-le, take-at}
-use Rattle.laws.specs.Block.{rises}
 use Rattle.laws.specs.Chop.{chop-join, chop-sized, join-chop, length-chop, length-join, low-join}
 use Rattle.laws.specs.Cut.{length-block, length-store, low-block, low-store, store-other, store-past, store-rises, store-same}
 use Rattle.laws.specs.Index.{NumberFits, digits-low, digits-zero, entry-stored, length-digits, num-digits, number-zero, stored-entry}
 use Rattle.laws.specs.Parity.{count-width}
 use Rattle.laws.specs.Lists.{drop-replicate, low-append, low-drop, low-replicate, low-take, rises-append, rises-full, rises-same, rises-zero, sum-append, sum-replicate, take-replicate}
 use Rattle.laws.specs.Stage.{Forth, Sized, Used, close, end, name, same}
-use Rattle.laws.specs.PlainMaps.{keeps}
 use Rattle.laws.specs.PlainSheet.{blocks-lawful, lawful-blocks}
 use Rattle.lifetime.specs.Storage.{Storage}
 use Rattle.rules.specs.Batches.{batch, decode, digits, entryCells, entryOf, indexCells, number, sheetAt, write}
-use Rattle.rules.specs.Block.{full}
 use Rattle.rules.specs.Cells.{Low, Rises, block, chop, join, same?, store, sum}
 use Rattle.rules.specs.Plain.{Spare}
 use Rattle.rules.specs.Search.{Found, at, first, nowhere}
@@ -36,17 +33,20 @@ abbrev pub AllFit : ℕ → ℕ → List Entry → Type 0
 AllFit L w [] = Unit {0}
 AllFit L w (e ∷ es) = NumberFits L w e × AllFit L w es
 
+-- where w digits hold k + 2 numbers, every index fits
 pub all-fit : (k L w : ℕ) (es : List Entry) → k + 2 ≤ suc L ^ w → Names k (indexes es) → AllFit L w es
 all-fit k L w [] p h = tt
 all-fit k L w (closed ∷ es) p h = (tt, all-fit k L w es p h)
 all-fit k L w (index zero ∷ es) p h = (omega arith, all-fit k L w es p h)
 all-fit k L w (index (suc b) ∷ es) p h = (omega (arith, h .0), all-fit k L w es p (h .2))
 
+-- so each is stored in w cells of at most L
 pub stored-sized : (L w : ℕ) (es : List Entry) → AllFit L w es → Sized w L (map (entryCells L w) es)
 stored-sized L w [] h = tt
 stored-sized L w (closed ∷ es) h = (length-replicate w L, low-replicate L w L (le-refl L), stored-sized L w es (h .1))
 stored-sized L w (index u ∷ es) h = (length-digits (suc L) w u, digits-low L w u (omega (arith, h .0)), stored-sized L w es (h .1))
 
+-- and is read back
 pub entries-stored : (L w : ℕ) (es : List Entry) → AllFit L w es → map (entryOf L w) (map (entryCells L w) es) ≡ es
 entries-stored L w [] h = refl
 entries-stored L w (e ∷ es) h = ap₂ (λ (x : Entry) (r : List Entry). x ∷ r) (entry-stored L w e (h .0)) (entries-stored L w es (h .1))
@@ -60,6 +60,7 @@ num-zero q (x ∷ b) h =
     let f : sum b ≡ 0 = omega arith in
     ap₂ (λ (y r : ℕ). y * q ^ length b + r) e (num-zero q b f) ∙ omega arith
 
+-- a number in use has a cell above 0
 pub used-sum : (L w : ℕ) (es : List Entry) → 0 < L → 0 < w → AllFit L w es → Used es → 0 < sum (join (map (entryCells L w) es))
 used-sum L w [] g p f h = absurd h
 used-sum L w (closed ∷ es) g p f h = omega (arith, sum-append (replicate w L) (join (map (entryCells L w) es)), sum-replicate w L, mul-pos p g)

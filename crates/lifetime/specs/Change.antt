@@ -4,21 +4,20 @@ use mathlib.Core.Logic.{_≢_, _↔_, ⊎-elim}
 use mathlib.Core.List.{List}
 use Prim.Native.Nat.{ℕ, zero, suc, _+_, _-_, _*_, _^_, _≤_, _<_}
 use native.Mathlib.Omega.{arith}
-use lib.ListN.{length, replicate}
+use lib.ListN.{replicate}
 use Rattle.rules.specs.Search.{Result, done, noPlace}
-use Rattle.rules.specs.Cells.{sum, Low, Rises}
+use Rattle.rules.specs.Cells.{sum, Rises}
 use Rattle.rules.specs.Plain.{Spare}
 use Rattle.rules.specs.Plain as R
 use Rattle.rules.specs.Staged.{Sheet}
 use Rattle.rules.specs.Batches.{decode, write, indexCells}
 use Rattle.rules.specs.Batches as B
 use Rattle.rules.specs.Accept.{Genuine}
-use Rattle.rules.specs.AcceptLaws.{PlainFacts, StagedFacts, genuine-facts}
+use Rattle.rules.specs.AcceptLaws.{PlainFacts, StagedFacts, genuine-facts, staged-inside}
 use Rattle.rules.specs.Calls.{readBit, changeAt, changeSheet, Outcome, changed, changing, changeCall}
 use Rattle.rules.specs.Answer.{numberOf, valueOf}
 use Rattle.rules.specs.declared.Check.{Check}
 use Rattle.rules.specs.declared.Settings.{Settings}
-use Rattle.rules.specs.declared.Answer.{Answer}
 use Rattle.rules.specs.declared.Answer.the-variants.{Done, Erase}
 use Rattle.laws.specs.Kinds.{plain-sound, sound-plain, plain-read, plain-change, staged-sound, sound-staged, staged-read, staged-change}
 use Rattle.laws.specs.Lists.{rises-sum}
@@ -44,6 +43,7 @@ module _ (r : Settings) (p : PlainFacts r) where
       let q : R.Sound (r .k) (r .top) (r .m) (r .n) xs = plain-sound r p xs (a .sound) in
       record { long = a .long; low = a .low; lawful = P.blocks-lawful (r .k) (r .top) (r .m) xs (omega (arith, p .bits-least)) (p .top-least) (q .0); spare = q .1 }
 
+  -- a sheet that the laws of plain sheets accept is accepted
   pub is-plain : (xs : List ℕ) → Genuine r → P.Accepted (r .k) (r .top) (r .m) (r .n) xs → Accepted r xs
   is-plain xs g a = record {
     genuine = g;
@@ -52,6 +52,7 @@ module _ (r : Settings) (p : PlainFacts r) where
     sound = sound-plain r p xs (P.lawful-blocks (r .k) (r .top) (r .m) xs (a .lawful), a .spare);
   }
 
+  -- what the encoding map of kind 0 makes of it
   pub plain-law : (i : ℕ) (xs ys : List ℕ) → Accepted r xs → i < r .k → changeSheet r xs i ≡ done ys → P.Changed (r .k) (r .top) (r .m) (r .n) i xs ys
   plain-law i xs ys a l e =
       P.change-law (r .k) (r .top) (r .m) (r .n) (p .bits-least) (p .top-least) (p .even) (p .inside) i l xs (plain-is xs a) ys (sym (plain-change r p xs i) ∙ e)
@@ -69,31 +70,34 @@ module _ (r : Settings) (p : PlainFacts r) where
 -- ---- kind 1
 
 module _ (r : Settings) (p : StagedFacts r) where
+  -- what the cells mean
   abbrev pub means : List ℕ → Sheet
   means = decode (r .s) (r .m) (r .top) (r .w)
 
+  -- and how a sheet is written back
   abbrev pub back : List ℕ → Sheet → List ℕ
   back = write (r .s) (r .m) (r .top) (r .w)
 
+  -- the spare cells are 0
   abbrev pub Clean : List ℕ → Type 0
   Clean = Spare (r .m * 2 ^ r .s + indexCells (r .s) (r .w)) (r .n)
 
   enough : 2 ^ r .s + 2 ≤ suc (r .top) ^ r .w
   enough = subst (λ (k : ℕ). k + 2 ≤ suc (r .top) ^ r .w) (sym (p .bits)) (p .enough)
 
-  inside : r .m * 2 ^ r .s + indexCells (r .s) (r .w) ≤ r .n
-  inside = subst (λ (k : ℕ). r .m * k + indexCells (r .s) (r .w) ≤ r .n) (sym (p .bits)) (p .inside)
-
+  -- k is at most m
   pub many : 2 ^ r .s ≤ r .m
   many = subst (λ (k : ℕ). k ≤ r .m) (sym (p .bits)) (p .room)
 
+  -- a bit below k
   pub below : {i : ℕ} → i < r .k → i < 2 ^ r .s
   below {i} l = subst (λ (k : ℕ). i < k) (sym (p .bits)) l
 
   -- the batches store the index blocks as the stages need
   pub stored : Storage (r .s) (r .m) (r .top) (r .n) means back Clean
-  stored = kind-1 (r .s) (r .m) (r .top) (r .w) (r .n) (p .top-least) (p .stages-least) enough inside
+  stored = kind-1 (r .s) (r .m) (r .top) (r .w) (r .n) (p .top-least) (p .stages-least) enough (staged-inside r p)
 
+  -- an accepted sheet, as the laws of the stages have it
   pub staged-is : (xs : List ℕ) → Accepted r xs → T.Accepted (r .s) (r .m) (r .top) means back (r .n) Clean xs
   staged-is xs a =
       let q : B.Sound (r .s) (r .m) (r .top) (r .w) (r .n) xs = staged-sound r p xs (a .sound) in
@@ -101,7 +105,7 @@ module _ (r : Settings) (p : StagedFacts r) where
         clean = q .1;
         long = a .long;
         low = a .low;
-        fits = sound-fits (r .s) (r .m) (r .top) (r .w) (r .n) (p .top-least) (p .stages-least) enough inside xs (a .long) (a .low) (q .0);
+        fits = sound-fits (r .s) (r .m) (r .top) (r .w) (r .n) (p .top-least) (p .stages-least) enough (staged-inside r p) xs (a .long) (a .low) (q .0);
       }
 
   is-staged : (xs : List ℕ) → Genuine r → T.Accepted (r .s) (r .m) (r .top) means back (r .n) Clean xs → Accepted r xs
@@ -174,16 +178,19 @@ erase-tells r xs i e = go (change-is r xs i) e
     go (erases a l n) e = record { accepted = a; bit = l; maps = n; same = refl }
     go (makes ys a l n) e = absurd (omega (arith, ap numberOf e))
 
+-- no place is answered Erase
 pub erase-answered : (r : Settings) (xs : List ℕ) (i : ℕ) → Accepted r xs → i < r .k → changeSheet r xs i ≡ noPlace → changeCall r xs i .answer ≡ Erase
 unfolding changeCall
 erase-answered r xs i a l n = ap (λ (c : Check). changing r xs i c .answer) (change-passes r xs i a l) ∙ ap (λ (q : Result (List ℕ)). changed xs q .answer) n
 
+-- a sheet made is answered Done, with the levels raised
 pub done-answered : (r : Settings) (xs ys : List ℕ) (i : ℕ) → Accepted r xs → i < r .k → changeSheet r xs i ≡ done ys → changeCall r xs i ≡ record { answer = Done (sum ys - sum xs); sheet = ys }
 unfolding changeCall
 done-answered r xs ys i a l n = ap (changing r xs i) (change-passes r xs i a l) ∙ ap (changed xs) n
 
 -- ---- Erase, in the words of document 01
 
+-- by the kind
 abbrev pub NoPlaceAt : ℕ → Settings → List ℕ → ℕ → Type 0
 NoPlaceAt zero r xs i = NoBlockLeft (r .k) (r .top) (r .m) i xs
 NoPlaceAt (suc kind) r xs i = NoPlace (r .s) (r .m) (r .top) i (decode (r .s) (r .m) (r .top) (r .w) xs)
@@ -196,6 +203,7 @@ place-at : (kind : ℕ) (r : Settings) (xs : List ℕ) (i : ℕ) → changeAt ki
 place-at zero r xs i = plain-place (r .k) (r .top) (r .m) i xs
 place-at (suc kind) r xs i = cells-place (r .s) (r .m) (r .top) (decode (r .s) (r .m) (r .top) (r .w)) (write (r .s) (r .m) (r .top) (r .w)) i xs
 
+-- the maps find no place exactly then
 pub sheet-place : (r : Settings) (xs : List ℕ) (i : ℕ) → changeSheet r xs i ≡ noPlace ↔ NoPlaceLeft r xs i
 unfolding changeSheet
 sheet-place r xs i = place-at (r .kind) r xs i

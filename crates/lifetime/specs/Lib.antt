@@ -1,4 +1,4 @@
--- Demands 2 and 3.
+-- Demands 1, 2 and 3, one outcome for each call, and the impostors.
 pub mod Tight
 pub mod Up
 pub mod Within
@@ -12,3 +12,4 @@ pub mod Run
 pub mod OneOutcome
 pub mod Refusals
 pub mod Impostors
+pub mod Pretending

@@ -1,20 +1,19 @@
 -- Where the maps find no place for a change, in the words of document 01. Assumes nothing.
 use mathlib.Core.Path.{_≡_, refl, sym, ap, _∙_, subst}
-use mathlib.Core.Logic.{_≢_, _↔_, ⊎-elim}
+use mathlib.Core.Logic.{_↔_, ⊎-elim}
 use mathlib.Core.List.{List}
-use Prim.Native.Nat.{ℕ, zero, suc, _+_, _-_, _*_, _^_, _≤_, _<_}
+use Prim.Native.Nat.{ℕ, zero, suc, _-_, _*_, _^_, _<_}
 use native.Mathlib.Nat.{not-suc-le-zero, le-refl, lt-of-not-le, eq-or-lt-of-le, le-of-suc-le-suc}
 use native.Mathlib.Decide.{ℕ-discrete, decLe}
 use native.Mathlib.Omega.{arith}
 use lib.ListN.{length, getD}
-use Rattle.rules.specs.Search.{pick, Found, at, nowhere, first, Result, done, noPlace}
+use Rattle.rules.specs.Search.{Found, nowhere, first, Result, done, noPlace}
 use Rattle.rules.specs.SearchLaws.{pick-elim, pick-no, First, hit, miss, first-is, first-eq}
-use Rattle.rules.specs.Plain.{HasBit, hasBit?, IsEmpty, isEmpty?, Plan, put, erase, planFrom, plan, states, carryOut}
+use Rattle.rules.specs.Plain.{HasBit, hasBit?, IsEmpty, isEmpty?, planFrom, plan, states, carryOut}
 use Rattle.rules.specs.Plain as R
-use Rattle.rules.specs.Block.{State}
 use Rattle.rules.specs.Cells.{tabulate}
 use Rattle.rules.specs.Stage.{Entry, indexes, Absent, Within, stay, beyond, chosen, changeWithin}
-use Rattle.rules.specs.Staged.{Sheet, stage0, staged, parityLength, parityBlocks, liveCount, moveTo, later, after, read, fromStage0, fromStaged, change, written, changeCells}
+use Rattle.rules.specs.Staged.{Sheet, stage0, staged, parityLength, parityBlocks, liveCount, later, after, read, fromStage0, fromStaged, change, written, changeCells}
 use Rattle.laws.specs.Stage.{absent-at, at-absent}
 use Rattle.laws.specs.PlainMaps.{NoBlock}
 
@@ -38,6 +37,7 @@ apart e = let z : _≡_ {A = ℕ} 0 1 = cc in omega arith
 -- ---- the plain map
 
 module _ (k L m i : ℕ) (xs : List ℕ) where
+  -- what the searches found, where it comes to no place
   plain-from : {f g : Found} → First (λ j. HasBit i (states k L xs j)) m f → First (λ j. IsEmpty (states k L xs j)) m g
       → carryOut k L xs (planFrom (k * L) (states k L xs) i f g) ≡ noPlace → NoBlockLeft k L m i xs
   plain-from (hit j l h b) g e = absurd (apart e)
@@ -56,20 +56,19 @@ module _ (k L m i : ℕ) (xs : List ℕ) where
 -- ---- later stages
 
 module _ (s m L : ℕ) (xs vs : List ℕ) where
+  -- no later stage found: none is left
   later-none : (d : ℕ) → later s m L d xs vs ≡ noPlace → NoStageLeft s m L d xs
   later-none zero e c l = absurd (not-suc-le-zero l)
   later-none (suc d) e c l = pick-elim (λ r. r ≡ noPlace → liveCount s m L c xs < 2 ^ s) (decLe (2 ^ s) (liveCount s m L d xs)) _ _
       (λ q z. absurd (apart z))
       (λ q z. ⊎-elim (λ y. subst (λ (x : ℕ). liveCount s m L x xs < 2 ^ s) (sym y) (lt-of-not-le q)) (λ y. later-none d z c y) (eq-or-lt-of-le (le-of-suc-le-suc l))) e
 
+  -- and conversely
   none-later : (d : ℕ) → NoStageLeft s m L d xs → later s m L d xs vs ≡ noPlace
   none-later zero h = refl
   none-later (suc d) h =
       pick-no (decLe (2 ^ s) (liveCount s m L d xs)) _ _ (λ q. let z : liveCount s m L d xs < 2 ^ s = h d (le-refl (suc d)) in omega arith)
       ∙ none-later d (λ c l. h c (omega arith))
-
-  pub later-place : (d : ℕ) → later s m L d xs vs ≡ noPlace ↔ NoStageLeft s m L d xs
-  later-place d = (later-none d, none-later d)
 
 -- ---- a stage from 1 up
 
@@ -129,12 +128,13 @@ module _ (s m L i : ℕ) where
   pub staged-place : (x : Sheet) → change s m L i x ≡ noPlace ↔ NoPlace s m L i x
   staged-place x = (none-to x, none-from x)
 
+-- what is not written back was not made
+pub unwritten : (write : List ℕ → Sheet → List ℕ) (f : List ℕ) (q : Result Sheet) → written write f q ≡ noPlace → q ≡ noPlace
+unwritten write f (done y) e = absurd (apart e)
+unwritten write f noPlace e = refl
+
 -- and so does the map on cells, however the index blocks are stored
 pub cells-place : (s m L : ℕ) (decode : List ℕ → Sheet) (write : List ℕ → Sheet → List ℕ) (i : ℕ) (f : List ℕ)
     → changeCells s m L decode write i f ≡ noPlace ↔ NoPlace s m L i (decode f)
 unfolding changeCells
-cells-place s m L decode write i f = (λ e. staged-place s m L i (decode f) .0 (unwritten (change s m L i (decode f)) e), λ h. ap (written write f) (staged-place s m L i (decode f) .1 h))
-  where
-    unwritten : (q : Result Sheet) → written write f q ≡ noPlace → q ≡ noPlace
-    unwritten (done y) e = absurd (apart e)
-    unwritten noPlace e = refl
+cells-place s m L decode write i f = (λ e. staged-place s m L i (decode f) .0 (unwritten write f (change s m L i (decode f)) e), λ h. ap (written write f) (staged-place s m L i (decode f) .1 h))

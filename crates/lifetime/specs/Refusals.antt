@@ -8,12 +8,13 @@ use native.Mathlib.Nat.{not-suc-le-zero}
 use native.Mathlib.Omega.{arith}
 use lib.ListN.{length, getD, drop, replicate, length-append, length-drop, List·getD-append}
 use lib.Seq.{getD-drop}
-use Rattle.rules.specs.Search.{Found, at, Result, done, noPlace}
+use Rattle.rules.specs.Search.{Found, Result, done, noPlace}
 use Rattle.rules.specs.SearchLaws.{pick-yes, pick-no, pick-elim, First, hit, miss, first-is, first-eq}
 use Rattle.rules.specs.Cells.{sum, Low, firstAbove}
 use Rattle.rules.specs.Batches.{indexCells, decode}
 use Rattle.rules.specs.Accept.{stagesOf, indexWidth, refused, accept, Genuine, genuine?, guarantee}
-use Rattle.rules.specs.AcceptLaws.{PlainRules, StagedRules, Ruled, kept, broken, plain-ruled, staged-ruled, stages-bits}
+use Rattle.rules.specs.StagesLaws.{stages-bits}
+use Rattle.rules.specs.AcceptLaws.{PlainRules, StagedRules, Ruled, kept, broken, plain-ruled, staged-ruled}
 use Rattle.rules.specs.Calls.{Sound, sound?, readAt, readBit, bitsOf, changeSheet, ask, andThen, levelCheck, checkLength, checkLevels, checkSheet, eraseChecks, readChecks, changeChecks, settingsCall, Outcome, erasing, eraseCall, changed, changing, changeCall, Reading, reading, readCall}
 use Rattle.rules.specs.Answer.{numberOf, valueOf}
 use Rattle.rules.specs.Promises.{outcome, readOut}
@@ -22,9 +23,9 @@ use Rattle.rules.specs.declared.Answer.{Answer}
 use Rattle.rules.specs.declared.Answer.the-variants.{Done, BadShape, BadLength, ShortOutput, BadBit, BadLevel, BadSheet, Erase}
 use Rattle.rules.specs.declared.Check.{Check}
 use Rattle.rules.specs.declared.Check.the-variants.{Pass, Refuse}
-use Rattle.laws.specs.Lists.{getD-past, getD-tabulate, length-tabulate, low-all, low-at}
+use Rattle.laws.specs.Lists.{getD-past, getD-tabulate, length-tabulate, low-all}
 use Rattle.laws.specs.PlainSheet as P
-use Rattle.laws.specs.Calls.{Accepted, ask-fails, ask-passes, then-ends, then-goes, read-passes, erase-passes, changeRest, readRest, erase-first, change-first, read-first}
+use Rattle.laws.specs.Calls.{Accepted, ask-fails, ask-passes, then-ends, then-goes, level-passes, read-passes, erase-passes, changeRest, readRest, erase-first, change-first, read-first}
 use Rattle.lifetime.specs.Change.{erase-answered, done-answered}
 use Rattle.lifetime.specs.Staged.{read-two}
 use Rattle.rules.specs.Staged.{readCells}
@@ -105,18 +106,10 @@ settings-record kind k L n = (refl, λ e. ⊎-elim (λ a. absurd (let z = sym (p
 -- ---- the checks
 
 module _ (r : Settings) (xs : List ℕ) where
-  -- the check of the levels answers by what the search for a cell above L means
-  levels-by : {f : Found} → First (λ c. r .top < getD xs c 0) (length xs) f → checkLevels r xs ≡ levelCheck f
-  unfolding firstAbove
-  levels-by h = ap levelCheck (first-eq (λ c. decLt (r .top) (getD xs c 0)) (length xs) h)
-
   -- a first cell above L is refused
   levels-refuse : (c : ℕ) → c < length xs → r .top < getD xs c 0 → ((b : ℕ) → b < c → getD xs b 0 ≤ r .top) → checkLevels r xs ≡ Refuse (BadLevel c)
-  levels-refuse c l h b = levels-by (hit c l h (λ i q z. let y : getD xs i 0 ≤ r .top = b i q in omega arith))
-
-  -- no cell above L passes
-  levels-pass : Low (r .top) xs → checkLevels r xs ≡ Pass
-  levels-pass h = levels-by (miss (λ c l z. let y : getD xs c 0 ≤ r .top = low-at (r .top) xs h c in omega arith))
+  unfolding firstAbove
+  levels-refuse c l h b = ap levelCheck (first-eq (λ c. decLt (r .top) (getD xs c 0)) (length xs) (hit c l h (λ i q z. let y : getD xs i 0 ≤ r .top = b i q in omega arith)))
 
   -- where no cell is above L the levels are low
   no-level : ((c : ℕ) → c < length xs → ¬ (r .top < getD xs c 0)) → Low (r .top) xs
@@ -144,7 +137,7 @@ module _ (r : Settings) (xs : List ℕ) where
 
   -- no cell above L, and the sheet rules broken
   sheet-ends : Low (r .top) xs → ¬ (Sound r xs) → lastChecks ≡ Refuse BadSheet
-  sheet-ends w h = then-goes (checkSheet r xs) (levels-pass w) ∙ ask-fails (sound? r xs) BadSheet h
+  sheet-ends w h = then-goes (checkSheet r xs) (level-passes (r .top) xs w) ∙ ask-fails (sound? r xs) BadSheet h
 
 -- ---- erase
 

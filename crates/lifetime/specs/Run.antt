@@ -1,21 +1,18 @@
 -- Demand 3: how many changes are accepted before the first Erase, for every run of calls from an erased sheet. Assumes nothing.
 use mathlib.Core.Path.{_≡_, refl, sym, ap, _∙_, subst}
-use mathlib.Core.Logic.{_≢_, ⊎-elim}
+use mathlib.Core.Logic.{⊎-elim}
 use mathlib.Core.List.{List}
-use Prim.Native.Nat.{ℕ, zero, suc, _+_, _-_, _*_, _^_, _≤_, _<_}
+use Prim.Native.Nat.{ℕ, suc, _+_, _-_, _*_, _^_, _≤_, _<_}
 use native.Mathlib.Omega.{arith}
-use lib.ListN.{length, replicate, length-replicate}
-use Rattle.rules.specs.Search.{Result, done, noPlace}
+use lib.ListN.{replicate, length-replicate}
+use Rattle.rules.specs.Search.{done}
 use Rattle.rules.specs.Cells.{sum}
-use Rattle.rules.specs.Plain as R
-use Rattle.rules.specs.Staged.{Sheet, changeCells}
-use Rattle.rules.specs.Batches.{decode, write}
 use Rattle.rules.specs.Accept.{Genuine, guarantee}
-use Rattle.rules.specs.AcceptLaws.{PlainFacts, StagedFacts, genuine-facts, genuine-plain, guarantee-plain, guarantee-staged}
+use Rattle.rules.specs.AcceptLaws.{PlainFacts, StagedFacts, genuine-facts, genuine-plain}
+use Rattle.rules.specs.GuaranteeLaws.{guarantee-plain, guarantee-staged}
 use Rattle.rules.specs.Calls.{changeSheet, Outcome, eraseChecks, erasing, eraseCall, changeCall}
 use Rattle.rules.specs.declared.Check.{Check}
-use Rattle.rules.specs.declared.Check.the-variants.{Pass, Refuse}
-use Rattle.rules.specs.Answer.{numberOf}
+use Rattle.rules.specs.declared.Check.the-variants.{Pass}
 use Rattle.rules.specs.declared.Settings.{Settings}
 use Rattle.rules.specs.declared.Answer.{Answer}
 use Rattle.rules.specs.declared.Answer.the-variants.{Done, BadShape, BadLength, ShortOutput, BadBit, BadLevel, BadSheet, Erase, BadRecord}

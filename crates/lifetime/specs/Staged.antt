@@ -1,26 +1,23 @@
 -- Laws of staged sheets, over what the cells mean: every change, the move, and the count of demand 3. Assumes nothing.
 use mathlib.Core.List.{List, _++_}
 use mathlib.Core.Logic.{_≢_, _⊎_, inl, inr}
-use mathlib.Core.Path.{_∙_, _≡_, ap, ap₂, refl, subst, subst₂, sym}
+use mathlib.Core.Path.{_∙_, _≡_, ap, ap₂, refl, subst, sym}
 use Prim.Native.Nat.{_%_, _*_, _+_, _-_, _<_, _^_, _≤_, suc, zero, zero-le, ℕ}
 use native.Mathlib.Decide.{decLe, ℕ-discrete}
-use native.Mathlib.Nat.{le-of-suc-le-suc, le-refl, mod-lt, mul-le-mul-right, not-suc-le-zero, pow-suc, sub-zero}
+use native.Mathlib.Nat.{le-refl, mod-lt, mul-le-mul-right, sub-zero}
 use native.Mathlib.Omega.{arith}
 use lib.ListN.{getD, length, length-append, length-replicate, replicate}
 use lib.Pow.{pow-pos}
-use Rattle.laws.specs.Block.{rises}
 use Rattle.laws.specs.Chop.{chop-join, chop-sized, join-chop, length-chop, length-join, length-record, low-join, sum-join, sums-chop}
 use Rattle.laws.specs.Halve.{plain-live}
 use Rattle.laws.specs.Lists.{getD-tabulate, length-tabulate, sum-replicate}
 use Rattle.laws.specs.Parity.{count-width, even-width, half-live, half-power, stage0-few}
-use Rattle.laws.specs.PlainMaps.{few, flips, keeps}
-use Rattle.laws.specs.Stage.{Forth, Sized, Used, full-sums, names-few, record-le, same, sums, used-append}
+use Rattle.laws.specs.Stage.{Forth, Sized, Used, full-sums, names-few, record-le, sums, used-append}
 use Rattle.lifetime.specs.Move.{Bits, entries-even, entries-names, entries-read, entries-used, indexes-pad, length-entries, record-sized}
 use Rattle.lifetime.specs.Up.{record-up, up-join}
 use Rattle.lifetime.specs.Within.{InLaw, Stands, in-law}
-use Rattle.rules.specs.Block.{full}
 use Rattle.rules.specs.Cells.{Low, Rises, chop, join, sum, tabulate}
-use Rattle.rules.specs.Search.{Result, done, here, noPlace}
+use Rattle.rules.specs.Search.{Result, done, noPlace}
 use Rattle.rules.specs.SearchLaws.{pick-elim, pick-no, pick-yes}
 use Rattle.rules.specs.Stage.{Entry, Names, Within, beyond, changeWithin, closed, indexes, liveWeights, recordAll, recordedEntries, stay, valueOf, weightOf}
 use Rattle.rules.specs.Staged.{Sheet, after, change, fromStage0, fromStaged, later, moveTo, parityBlocks, parityCount, parityLength, read, stage0, staged}
@@ -41,15 +38,17 @@ abbrev pub stagesLeft : ℕ → Sheet → ℕ
 stagesLeft s (stage0 xs) = s - 1
 stagesLeft s (staged d xs es) = d
 
--- the cells of the m blocks, and the sum of their levels
+-- the cells of the m blocks
 abbrev pub blockCells : Sheet → List ℕ
 blockCells (stage0 xs) = xs
 blockCells (staged d xs es) = xs
 
+-- the sum of their levels
 abbrev pub levels : Sheet → ℕ
 levels x = sum (blockCells x)
 
 module _ (s m L : ℕ) where
+  -- a stage from 1 up that keeps its rules, in use
   pub record StagedFits (d : ℕ) (xs : List ℕ) (es : List Entry) : Type 0 where
     pub stage : d < s - 1
     pub long : length xs ≡ m * 2 ^ s
@@ -58,6 +57,7 @@ module _ (s m L : ℕ) where
     pub full : length es ≡ 2 * (2 ^ s - 1)
     pub used : Used es
 
+  -- a sheet that keeps the rules of its stage
   abbrev pub Fits : Sheet → Type 0
   Fits (stage0 xs) = P.Accepted (2 ^ s) L m (m * 2 ^ s) xs
   Fits (staged d xs es) = StagedFits d xs es
@@ -73,6 +73,7 @@ module _ (s m L : ℕ) where
   forward-later (stage0 xs) (staged d ys fs) h = tt
   forward-later (staged e xs es) (staged d ys fs) h = inl h
 
+  -- what a change of bit i that is made does
   pub record Changed (i : ℕ) (x y : Sheet) : Type 0 where
     pub forward : Forward x y
     pub fits : Fits y
@@ -83,6 +84,7 @@ module _ (s m L : ℕ) where
     -- a stage is paid for with k - 1 levels
     pub pays : levels y + (2 ^ s - 1) * stagesLeft s y ≤ suc (levels x + (2 ^ s - 1) * stagesLeft s x)
 
+  -- what a change comes to: it is so, or the levels of the m blocks are nearly all raised
   abbrev pub ReplyLaw : ℕ → Sheet → Result Sheet → Type 0
   ReplyLaw i x (done y) = Changed i x y
   ReplyLaw i x noPlace = m * 2 ^ s * L ≤ levels x + (2 ^ s - 1) * (2 * L)
@@ -180,6 +182,7 @@ module _ (s m L : ℕ) where
         mul-le-mul-right {m = length (liveWeights W (parityBlocks s m 0 xs))} {n = 2 ^ s - 1} W (omega arith),
       )
 
+  -- a reading is 0 or 1
   pub read-two : (x : Sheet) (y : ℕ) → read s m L x y < 2
   unfolding read
   read-two (stage0 xs) y = P.read-two (2 ^ s) L m xs y

@@ -5,17 +5,14 @@ use mathlib.Core.Path.{_∙_, _≡_, ap, refl, subst, sym}
 use Prim.Native.Nat.{_*_, _+_, _-_, _<_, _^_, _≤_, suc, ℕ}
 use native.Mathlib.Omega.{arith}
 use lib.ListN.{length, length-replicate, replicate, take}
-use Rattle.laws.specs.Block.{rises}
 use Rattle.laws.specs.Lists.{low-replicate}
-use Rattle.laws.specs.PlainMaps.{flips, keeps, stays}
-use Rattle.laws.specs.PlainSheet.{blank}
-use Rattle.rules.specs.Batches.{decode, write}
 use Rattle.rules.specs.Cells.{Low, Rises}
 use Rattle.rules.specs.Search.{Result, done, noPlace}
 use Rattle.rules.specs.Staged.{Sheet, change, changeCells, read, readCells, stage0, written}
+use Rattle.lifetime.specs.Place.{unwritten}
 use Rattle.lifetime.specs.Staged as S
 
--- what n cells mean, how a new state is written back, and what else holds of the cells (the spare cells are 0; levels that no stage uses are not there)
+-- what n cells mean, how a new state is written back, and what else holds of the cells (Clean: the spare cells are 0)
 pub record Storage (s m L n : ℕ) (decode : List ℕ → Sheet) (write : List ℕ → Sheet → List ℕ) (Clean : List ℕ → Type 0) : Type 0 where
   pub blank : decode (replicate n 0) ≡ stage0 (replicate (m * 2 ^ s) 0)
   pub clean : Clean (replicate n 0)
@@ -28,12 +25,14 @@ pub record Storage (s m L n : ℕ) (decode : List ℕ → Sheet) (write : List �
       → Rises (take (m * 2 ^ s) f) (S.blockCells y) → Rises f (write f y)
 
 module _ (s m L : ℕ) (decode : List ℕ → Sheet) (write : List ℕ → Sheet → List ℕ) where
+  -- a sheet that checks 2, 5 and 6 accept
   pub record Accepted (n : ℕ) (Clean : List ℕ → Type 0) (f : List ℕ) : Type 0 where
     pub clean : Clean f
     pub long : length f ≡ n
     pub low : Low L f
     pub fits : S.Fits s m L (decode f)
 
+  -- what a change of bit i that is made does
   pub record Changed (n : ℕ) (Clean : List ℕ → Type 0) (i : ℕ) (f h : List ℕ) : Type 0 where
     pub stays : Accepted n Clean h
     pub rises : Rises f h
@@ -46,13 +45,10 @@ module _ (s m L : ℕ) (decode : List ℕ → Sheet) (write : List ℕ → Sheet
     more : (c i : ℕ) (f h : List ℕ) → Run n c f → i < 2 ^ s → changeCells s m L decode write i f ≡ done h → Run n (suc c) h
 
 module _ (s m L n : ℕ) (decode : List ℕ → Sheet) (write : List ℕ → Sheet → List ℕ) (Clean : List ℕ → Type 0) (𝓢 : Storage s m L n decode write Clean) (g : 0 < L) (pos : 1 < s) (many : 2 ^ s ≤ m) where
+  -- a sheet written back was made
   came : (f h : List ℕ) (r : Result Sheet) → written write f r ≡ done h → (y : Sheet) × (r ≡ done y) × (h ≡ write f y)
   came f h (done y) e = (y, refl, (cc))
   came f h noPlace e = absurd (let z : _≡_ {A = ℕ} 0 1 = cc in omega arith)
-
-  none : (f : List ℕ) (r : Result Sheet) → written write f r ≡ noPlace → r ≡ noPlace
-  none f (done y) e = absurd (let z : _≡_ {A = ℕ} 0 1 = cc in omega arith)
-  none f noPlace e = refl
 
   -- what an accepted change does, with what it means
   module _ (i : ℕ) (f h : List ℕ) (a : Accepted s m L decode write n Clean f) (l : i < 2 ^ s) (y : Sheet) (q : change s m L i (decode f) ≡ done y) (e : h ≡ write f y) where
@@ -100,4 +96,4 @@ module _ (s m L n : ℕ) (decode : List ℕ → Sheet) (write : List ℕ → She
   -- demand 3, staged, on cells
   pub staged-late : (c i : ℕ) (f : List ℕ) → Run s m L decode write n c f → i < 2 ^ s → changeCells s m L decode write i f ≡ noPlace → m * 2 ^ s * L - (2 ^ s - 1) * (2 * L + (s - 1)) ≤ c
   unfolding changeCells
-  staged-late c i f r l e = S.staged-late s m L g pos many c i (decode f) (run-law r .1) l (none f (change s m L i (decode f)) e)
+  staged-late c i f r l e = S.staged-late s m L g pos many c i (decode f) (run-law r .1) l (unwritten write f (change s m L i (decode f)) e)

@@ -94,9 +94,10 @@ record-holds rec r xs h =
 pub held-shows : (r : Settings) (xs : List ℕ) → Accepted r (take (r .n) xs) → bitsHeld r xs ≡ bitsOf r (take (r .n) xs)
 held-shows r xs a = ap (λ (c : Check). shown c (bitsOf r (take (r .n) xs))) (read-passes r (take (r .n) xs) (replicate (r .k) 0) a (zeros-enough r))
 
--- no bit and the sum 0 while there is no sheet
+-- no bit while there is no sheet
 pub nothing-shows : (xs : List ℕ) → bitsHeld refused xs ≡ []
 nothing-shows xs = ap (λ (c : Check). shown c (bitsOf refused (take 0 xs))) (then-ends _ (ask-fails (genuine? refused) BadShape refused-forged))
 
+-- and the sum 0
 pub nothing-sums : (xs : List ℕ) → sum (take (refused .n) xs) ≡ 0
 nothing-sums xs = refl

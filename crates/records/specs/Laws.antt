@@ -1,11 +1,11 @@
 -- Laws of a record's tests and of its work. Assumes nothing.
 use mathlib.Core.Path.{_≡_, refl, sym, ap, _∙_}
-use mathlib.Core.List.{List, [], _∷_, _++_}
+use mathlib.Core.List.{List, _++_}
 use Prim.Native.Nat.{ℕ, zero, suc, _≤_}
-use native.Mathlib.Nat.{le-refl, le-of-suc-le-suc, not-suc-le-zero}
+use native.Mathlib.Nat.{le-refl, not-suc-le-zero}
 use native.Mathlib.Decide.{ℕ-discrete, decLe, decLt}
 use native.Mathlib.Omega.{arith}
-use lib.ListN.{length, getD, take, drop}
+use lib.ListN.{length, getD, take, drop, drop-of-length-le}
 use lib.Seq.{take-all, take-length, drop-length, length-take-le}
 use Rattle.rules.specs.SearchLaws.{pick-elim}
 use Rattle.rules.specs.Calls.{ask, andThen, Outcome, eraseCall, changeCall}
@@ -121,22 +121,16 @@ work-three (suc zero) rec r xs l h g = absurd (h refl)
 work-three (suc (suc zero)) rec r xs l h g = absurd (g refl)
 work-three (suc (suc (suc op))) rec r xs l h g = refl
 
--- a record that passes every test has its form
+-- where two checks pass, the first does
 then-first : (c d : Check) → andThen c d ≡ Pass → c ≡ Pass
 then-first Pass d e = refl
 then-first (Refuse a) d e = e
 
+-- a record that passes every test has its form
 pub record-form : (rec : List ℕ) (r : Settings) → checkRecord rec r ≡ Pass → Form rec
 record-form rec r e = tested-passed (form-tested rec) (then-first (checkForm rec) (checkUse (operation rec) rec r) e)
 
 -- ---- the cells of a sheet
-
--- nothing stands after the end
-drop-past : (n : ℕ) (xs : List ℕ) → length xs ≤ n → _≡_ {A = List ℕ} (drop n xs) []
-drop-past zero [] h = refl
-drop-past (suc n) [] h = refl
-drop-past zero (x ∷ xs) h = absurd (omega arith)
-drop-past (suc n) (x ∷ xs) h = drop-past n xs (le-of-suc-le-suc h)
 
 -- n where there are that many cells
 pub front-part : (n : ℕ) (xs : List ℕ) → n ≤ length xs → Front n xs n
@@ -148,7 +142,7 @@ front-all n xs h = record {
   inside = le-refl (length xs);
   counted = sym (ap length (take-length xs));
   part = take-length xs ∙ sym (take-all n xs h);
-  rest = drop-length xs ∙ sym (drop-past n xs h);
+  rest = drop-length xs ∙ sym (drop-of-length-le xs h);
 }
 
 -- ---- the work

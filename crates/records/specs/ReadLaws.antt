@@ -1,15 +1,13 @@
 -- Laws of a reading of the sheet held: its answer is that of k places, and its bits are the first k places. Assumes nothing.
-use mathlib.Core.Path.{_≡_, refl, sym, ap, subst, _∙_}
+use mathlib.Core.Path.{_≡_, refl, sym, ap, _∙_}
 use mathlib.Core.List.{List, _++_}
-use mathlib.Core.Logic.{⊎-elim}
-use Prim.Native.Nat.{ℕ, _+_, _≤_}
+use Prim.Native.Nat.{ℕ, _≤_}
 use native.Mathlib.Decide.{decLe}
 use native.Mathlib.Omega.{arith}
 use lib.ListN.{length, take, drop, replicate, length-replicate, length-append}
-use lib.Pow.{pow-mono}
 use lib.Seq.{take-at, drop-at}
 use Rattle.rules.specs.Accept.{mostBits, Genuine, genuine?}
-use Rattle.rules.specs.AcceptLaws.{genuine-facts}
+use Rattle.rules.specs.AcceptLaws.{genuine-common}
 use Rattle.rules.specs.Answer.{numberOf}
 use Rattle.rules.specs.Calls.{readBit, bitsOf, ask, andThen, checkLength, checkOutput, checkLevels, checkSheet, readChecks, Reading, reading, readCall}
 use Rattle.rules.specs.Promises.{readOut, ReadPromise}
@@ -23,10 +21,6 @@ use Rattle.laws.specs.Calls.{Accepted, Refusal, Checked, passed, refused, read-
 use Rattle.laws.specs.Lists.{length-tabulate}
 use Rattle.records.specs.Meaning.{stepOf, Front, shown, bitsHeld, BitsShown}
 
--- accepted settings have at most 64 bits
-bits-few : (r : Settings) → Genuine r → r .k ≤ mostBits
-bits-few r g = ⊎-elim (λ f. f .bits-most) (λ f. subst (λ (k : ℕ). k ≤ mostBits) (f .bits) (pow-mono (f .stages-most))) (genuine-facts r g)
-
 -- k places are enough
 pub zeros-enough : (r : Settings) → r .k ≤ length (replicate {A = ℕ} (r .k) 0)
 zeros-enough r = omega (arith, length-replicate {A = ℕ} (r .k) 0)
@@ -39,7 +33,7 @@ module _ (r : Settings) (xs out : List ℕ) (h : mostBits ≤ length out) where
       go : (d : Dec (Genuine r)) → andThen (ask d BadShape) (andThen (checkLength r xs) (andThen (checkOutput r out) (andThen (checkLevels r xs) (checkSheet r xs))))
           ≡ andThen (ask d BadShape) (andThen (checkLength r xs) (andThen (checkOutput r (replicate (r .k) 0)) (andThen (checkLevels r xs) (checkSheet r xs))))
       go (yes g) =
-          let l : r .k ≤ length out = omega (arith, bits-few r g) in
+          let l : r .k ≤ length out = omega (arith, genuine-common r g .bits-most) in
           ap (λ (c : Check). andThen (checkLength r xs) (andThen c (andThen (checkLevels r xs) (checkSheet r xs))))
           (ask-passes (decLe (r .k) (length out)) ShortOutput l ∙ sym (ask-passes (decLe (r .k) (length (replicate (r .k) 0))) ShortOutput (zeros-enough r)))
       go (no n) = refl

@@ -1,6 +1,6 @@
 -- Which settings are accepted, what is worked out of them, and what they guarantee (01, "The sheet and its settings"). Assumes nothing.
-use mathlib.Core.Path.{_≡_, refl, ap}
-use Prim.Native.Nat.{ℕ, zero, suc, _+_, _-_, _*_, _/_, _%_, _^_, _≤_, _<_}
+use mathlib.Core.Path.{_≡_, ap}
+use Prim.Native.Nat.{ℕ, zero, suc, _+_, _-_, _*_, _/_, _%_, _^_, _<_}
 use native.Mathlib.Decide.{ℕ-discrete, decLe, decLt}
 use Rattle.rules.specs.Search.{pick, both?, Found, at, nowhere, first}
 use Rattle.rules.specs.Batches.{batchCells, indexCells}
@@ -8,16 +8,19 @@ use Rattle.rules.specs.declared.Settings.{Settings}
 
 -- ---- the limits
 
--- bits, the top level, cells, and the s of a staged sheet's 2 ^ s bits
+-- the most bits
 abbrev pub mostBits : ℕ
 mostBits = 64
 
+-- the highest top level
 abbrev pub mostTop : ℕ
 mostTop = 255
 
+-- the most cells
 abbrev pub mostCells : ℕ
 mostCells = 16384
 
+-- the s of the most bits, 2 ^ s
 abbrev pub mostStages : ℕ
 mostStages = 6
 
@@ -42,6 +45,7 @@ acceptPlain k L n =
     (require (ℕ-discrete (k * L % 2) 0) (require (decLe k (n / k))
     (record { kind = 0; k = k; top = L; n = n; m = n / k; s = 0; w = 0 })))))
 
+-- the place that a search found; 0 where it found none
 abbrev pub placeOf : Found → ℕ
 placeOf (at j) = j
 placeOf nowhere = 0
@@ -61,6 +65,7 @@ stagedRoom k L n s w =
     (require (decLe (indexCells s w) n) (require (decLe k ((n - indexCells s w) / k))
     (record { kind = 1; k = k; top = L; n = n; m = (n - indexCells s w) / k; s = s; w = w }))))
 
+-- kind 1 with what the search for s found
 abbrev pub stagedWith : ℕ → ℕ → ℕ → Found → Settings
 stagedWith k L n (at s) = stagedRoom k L n s (indexWidth L k)
 stagedWith k L n nowhere = refused
@@ -99,16 +104,19 @@ sameSettings? a b = go (ℕ-discrete (a .kind) (b .kind)) (ℕ-discrete (a .k) (
     go (yes e₁) (yes e₂) (yes e₃) (yes e₄) (yes e₅) (no h) d₇ = no (λ e. h (ap (λ (r : Settings). r .s) e))
     go (yes e₁) (yes e₂) (yes e₃) (yes e₄) (yes e₅) (yes e₆) (no h) = no (λ e. h (ap (λ (r : Settings). r .w) e))
 
+-- whether acceptance gives this record
 unfoldable pub genuine? : (r : Settings) → Dec (Genuine r)
 unfolding sameSettings?
 genuine? r = both? (decLt 0 (r .k)) (sameSettings? (again r) r)
 
 -- ---- the guarantee: demand 3's formula
 
+-- by the kind: plain (m - k + 1)kL + k - 1, staged mkL - (k - 1)(2L + s - 1)
 abbrev pub guaranteeAt : ℕ → Settings → ℕ
 guaranteeAt zero r = (r .m - r .k + 1) * r .k * r .top + r .k - 1
 guaranteeAt (suc kind) r = r .m * r .k * r .top - (r .k - 1) * (2 * r .top + r .s - 1)
 
+-- the guarantee of accepted settings
 unfoldable pub guarantee : Settings → ℕ
 guarantee r = guaranteeAt (r .kind) r
 

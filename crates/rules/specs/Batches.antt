@@ -1,7 +1,6 @@
 -- How kind 1 stores its index blocks: w digits in base L + 1, in batches 1 to s - 1 after the m blocks. Assumes nothing.
-use mathlib.Core.Path.{_≡_}
 use mathlib.Core.List.{List, [], _∷_, _++_, map}
-use Prim.Native.Nat.{ℕ, zero, suc, _+_, _-_, _*_, _/_, _%_, _^_, _<_}
+use Prim.Native.Nat.{ℕ, zero, suc, _+_, _-_, _*_, _/_, _%_, _^_}
 use native.Mathlib.Decide.{decLt}
 use lib.ListN.{length, take, drop, replicate}
 use Rattle.rules.specs.Search.{pick, both?, Found, at, nowhere, first}
@@ -41,6 +40,7 @@ indexCells s w = (s - 1) * batchCells s w
 unfoldable pub batch : ℕ → ℕ → ℕ → List ℕ → ℕ → List ℕ
 batch s m w f d = block (batchCells s w) (drop (m * 2 ^ s) f) (s - 2 - d)
 
+-- what the cells mean at the stage with d left, or at stage 0
 abbrev pub sheetAt : ℕ → ℕ → ℕ → ℕ → List ℕ → Found → Sheet
 sheetAt s m L w f (at d) = staged d (take (m * 2 ^ s) f) (map (entryOf L w) (chop w (indexBlocks s) (batch s m w f d)))
 sheetAt s m L w f nowhere = stage0 (take (m * 2 ^ s) f)
@@ -58,5 +58,6 @@ write s m L w f (staged d xs es) = xs ++ store (batchCells s w) (drop (m * 2 ^ s
 abbrev pub Sound : ℕ → ℕ → ℕ → ℕ → ℕ → List ℕ → Type 0
 Sound s m L w n f = SheetOk s m L (decode s m L w f) × Spare (m * 2 ^ s + indexCells s w) n f
 
+-- whether it does
 unfoldable pub sound? : (s m L w n : ℕ) (f : List ℕ) → Dec (Sound s m L w n f)
 sound? s m L w n f = both? (sheetOk? s m L (decode s m L w f)) (same? (drop (m * 2 ^ s + indexCells s w) f) (replicate (n - (m * 2 ^ s + indexCells s w)) 0))

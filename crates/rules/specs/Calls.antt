@@ -1,7 +1,6 @@
 -- What each call answers and leaves, for any input at all (01, "What each call answers"). Assumes nothing.
-use mathlib.Core.Path.{_≡_}
 use mathlib.Core.List.{List, _++_}
-use Prim.Native.Nat.{ℕ, zero, suc, _-_, _≤_, _<_}
+use Prim.Native.Nat.{ℕ, zero, suc, _-_}
 use native.Mathlib.Decide.{ℕ-discrete, decLe, decLt}
 use lib.ListN.{length, drop, replicate}
 use Rattle.rules.specs.Search.{pick, Found, at, nowhere, Result, done, noPlace}
@@ -9,7 +8,7 @@ use Rattle.rules.specs.Cells.{sum, firstAbove, tabulate}
 use Rattle.rules.specs.Plain as P
 use Rattle.rules.specs.Staged.{readCells, changeCells}
 use Rattle.rules.specs.Batches as B
-use Rattle.rules.specs.Accept.{accept, Genuine, genuine?, guarantee}
+use Rattle.rules.specs.Accept.{accept, genuine?, guarantee}
 use Rattle.rules.specs.declared.Settings.{Settings}
 use Rattle.rules.specs.declared.Setup.{Setup}
 use Rattle.rules.specs.declared.Answer.{Answer}
@@ -19,6 +18,7 @@ use Rattle.rules.specs.declared.Check.the-variants.{Pass, Refuse}
 
 -- ---- what the cells of a sheet say, by the kind of its settings
 
+-- the sheet rules of a kind
 abbrev pub SoundAt : ℕ → Settings → List ℕ → Type 0
 SoundAt zero r xs = P.Sound (r .k) (r .top) (r .m) (r .n) xs
 SoundAt (suc kind) r xs = B.Sound (r .s) (r .m) (r .top) (r .w) (r .n) xs
@@ -27,13 +27,16 @@ SoundAt (suc kind) r xs = B.Sound (r .s) (r .m) (r .top) (r .w) (r .n) xs
 abbrev pub Sound : Settings → List ℕ → Type 0
 Sound r xs = SoundAt (r .kind) r xs
 
+-- whether it keeps those of a kind
 abbrev pub soundAt? : (kind : ℕ) (r : Settings) (xs : List ℕ) → Dec (SoundAt kind r xs)
 soundAt? zero r xs = P.sound? (r .k) (r .top) (r .m) (r .n) xs
 soundAt? (suc kind) r xs = B.sound? (r .s) (r .m) (r .top) (r .w) (r .n) xs
 
+-- whether it does
 unfoldable pub sound? : (r : Settings) (xs : List ℕ) → Dec (Sound r xs)
 sound? r xs = soundAt? (r .kind) r xs
 
+-- the decoding map of a kind
 abbrev pub readAt : ℕ → Settings → List ℕ → ℕ → ℕ
 readAt zero r xs i = P.read (r .k) (r .top) (r .m) xs i
 readAt (suc kind) r xs i = readCells (r .s) (r .m) (r .top) (B.decode (r .s) (r .m) (r .top) (r .w)) xs i
@@ -46,6 +49,7 @@ readBit r xs i = readAt (r .kind) r xs i
 abbrev pub bitsOf : Settings → List ℕ → List ℕ
 bitsOf r xs = tabulate (r .k) (readBit r xs)
 
+-- the encoding map of a kind
 abbrev pub changeAt : ℕ → Settings → List ℕ → ℕ → Result (List ℕ)
 changeAt zero r xs i = P.change (r .k) (r .top) (r .m) i xs
 changeAt (suc kind) r xs i = changeCells (r .s) (r .m) (r .top) (B.decode (r .s) (r .m) (r .top) (r .w)) (B.write (r .s) (r .m) (r .top) (r .w)) i xs
@@ -81,6 +85,7 @@ checkOutput r out = ask (decLe (r .k) (length out)) ShortOutput
 abbrev pub checkBit : Settings → ℕ → Check
 checkBit r i = ask (decLt i (r .k)) BadBit
 
+-- a cell found above L is refused, with its number
 abbrev pub levelCheck : Found → Check
 levelCheck nowhere = Pass
 levelCheck (at c) = Refuse (BadLevel c)
@@ -93,17 +98,21 @@ checkLevels r xs = levelCheck (firstAbove (r .top) xs)
 abbrev pub checkSheet : Settings → List ℕ → Check
 checkSheet r xs = ask (sound? r xs) BadSheet
 
+-- erase runs checks 1 and 2
 abbrev pub eraseChecks : Settings → List ℕ → Check
 eraseChecks r xs = andThen (checkShape r) (checkLength r xs)
 
+-- read runs checks 1, 2, 3, 5 and 6
 abbrev pub readChecks : Settings → List ℕ → List ℕ → Check
 readChecks r xs out = andThen (checkShape r) (andThen (checkLength r xs) (andThen (checkOutput r out) (andThen (checkLevels r xs) (checkSheet r xs))))
 
+-- change runs checks 1, 2, 4, 5 and 6; the seventh is the encoding map's own
 abbrev pub changeChecks : Settings → List ℕ → ℕ → Check
 changeChecks r xs i = andThen (checkShape r) (andThen (checkLength r xs) (andThen (checkBit r i) (andThen (checkLevels r xs) (checkSheet r xs))))
 
 -- ---- the calls
 
+-- a record of no bits is the record of zeros
 abbrev pub setupOf : Settings → Setup
 setupOf r = record { answer = pick (decLt 0 (r .k)) (Done (guarantee r)) BadShape; settings = r }
 
@@ -116,6 +125,7 @@ pub record Outcome : Type 0 where
   pub answer : Answer
   pub sheet : List ℕ
 
+-- a refusal leaves the sheet as it was
 abbrev pub erasing : Settings → List ℕ → Check → Outcome
 erasing r xs (Refuse a) = record { answer = a; sheet = xs }
 erasing r xs Pass = record { answer = Done (guarantee r); sheet = replicate (r .n) 0 }
@@ -124,10 +134,12 @@ erasing r xs Pass = record { answer = Done (guarantee r); sheet = replicate (r .
 unfoldable pub eraseCall : Settings → List ℕ → Outcome
 eraseCall r xs = erasing r xs (eraseChecks r xs)
 
+-- levels raised: the sum after less the sum before; no place leaves the sheet as it was
 abbrev pub changed : List ℕ → Result (List ℕ) → Outcome
 changed xs (done ys) = record { answer = Done (sum ys - sum xs); sheet = ys }
 changed xs noPlace = record { answer = Erase; sheet = xs }
 
+-- a refusal leaves the sheet as it was
 abbrev pub changing : Settings → List ℕ → ℕ → Check → Outcome
 changing r xs i (Refuse a) = record { answer = a; sheet = xs }
 changing r xs i Pass = changed xs (changeSheet r xs i)
@@ -141,6 +153,7 @@ pub record Reading : Type 0 where
   pub answer : Answer
   pub places : List ℕ
 
+-- a refusal leaves every place as it was
 abbrev pub reading : Settings → List ℕ → List ℕ → Check → Reading
 reading r xs out (Refuse a) = record { answer = a; places = out }
 reading r xs out Pass = record { answer = Done (sum (bitsOf r xs)); places = bitsOf r xs ++ drop (r .k) out }

@@ -1,4 +1,4 @@
--- The rules of document 01, as definitions.
+-- The rules of document 01, as definitions, with the laws of searches and of settings.
 pub mod Answer
 pub mod Search
 pub mod SearchLaws
@@ -9,7 +9,9 @@ pub mod Stage
 pub mod Staged
 pub mod Batches
 pub mod Accept
+pub mod StagesLaws
 pub mod AcceptLaws
+pub mod GuaranteeLaws
 pub mod Calls
 pub mod Promises
 pub mod Records

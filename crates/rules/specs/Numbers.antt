@@ -6,16 +6,14 @@ use native.Mathlib.Decide.{ℕ-discrete, decLe, decLt}
 use lib.ListN.{replicate}
 use Rattle.rules.specs.Search.{all?, first}
 use Rattle.rules.specs.Cells.{firstAbove, same?, block, store}
-use Rattle.rules.specs.Block.{State, active, ramp, cycle, stateOf, cellsOf, next}
+use Rattle.rules.specs.Block.{active, ramp, cycle, stateOf}
 use Rattle.rules.specs.Plain as P
 use Rattle.rules.specs.Stage.{absent?, names?, stageOk?, changeWithin}
 use Rattle.rules.specs.Staged as S
 use Rattle.rules.specs.Batches as B
 use Rattle.rules.specs.Accept.{refused, acceptPlain, acceptStaged, indexWidth, accept, sameSettings?, genuine?, guarantee}
-use Rattle.rules.specs.Calls.{settingsCall, Outcome, changeCall, Reading, readCall, sound?, readBit, changeSheet}
+use Rattle.rules.specs.Calls.{settingsCall, changeCall, readCall, sound?, readBit, changeSheet}
 use Rattle.rules.specs.declared.Settings.{Settings}
-use Rattle.rules.specs.declared.Setup.{Setup}
-use Rattle.rules.specs.declared.Answer.{Answer}
 use Rattle.rules.specs.declared.Answer.the-variants.{Done, BadShape, BadSheet}
 
 -- k = 4, L = 2: a sheet of 16 cells that has the block b first and empty blocks after it
@@ -106,6 +104,7 @@ pub record Marked : Type 0 where
   pub bit1third : Moves sheet₃ 1 3 sheet₄
   pub bit1fourth : Moves sheet₄ 1 3 sheet₅
 
+-- every number is what the definitions compute
 pub marked : Marked
 unfolding settingsCall changeCall readCall sound? readBit changeSheet genuine? sameSettings? guarantee acceptPlain acceptStaged indexWidth firstAbove
     P.sound? P.blocksOk? P.read P.change P.plan P.bitOf P.states S.read S.change S.readCells S.changeCells S.sheetOk? B.sound? B.decode B.batch B.entryOf B.number B.digits

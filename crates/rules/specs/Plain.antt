@@ -1,8 +1,8 @@
 -- Plain sheets: m blocks of k cells and then spare cells (01, "Plain rules"; the paper's D0 and E0). Assumes nothing.
 use mathlib.Core.Path.{_≡_}
 use mathlib.Core.List.{List}
-use Prim.Native.Nat.{ℕ, suc, _+_, _-_, _*_, _%_, _<_}
-use native.Mathlib.Decide.{ℕ-discrete, decLt}
+use Prim.Native.Nat.{ℕ, _-_, _*_, _%_, _<_}
+use native.Mathlib.Decide.{ℕ-discrete}
 use lib.ListN.{drop, replicate}
 use Rattle.rules.specs.Search.{both?, not?, all?, Found, at, nowhere, first, Result, done, noPlace}
 use Rattle.rules.specs.Cells.{same?, block, store}
@@ -17,18 +17,21 @@ HasBit i full = ⊥
 HasBit i broken = ⊥
 HasBit i (active j v) = i ≡ j
 
+-- whether it is
 abbrev pub hasBit? : (i : ℕ) (s : State) → Dec (HasBit i s)
 hasBit? i empty = no (λ e. e)
 hasBit? i full = no (λ e. e)
 hasBit? i broken = no (λ e. e)
 hasBit? i (active j v) = ℕ-discrete i j
 
+-- the block is empty
 abbrev pub IsEmpty : State → Type 0
 IsEmpty empty = Unit {0}
 IsEmpty full = ⊥
 IsEmpty broken = ⊥
 IsEmpty (active j v) = ⊥
 
+-- whether it is
 abbrev pub isEmpty? : (s : State) → Dec (IsEmpty s)
 isEmpty? empty = yes tt
 isEmpty? full = no (λ e. e)
@@ -42,6 +45,7 @@ OnCycle full = Unit {0}
 OnCycle broken = ⊥
 OnCycle (active j v) = Unit {0}
 
+-- whether it is
 abbrev pub onCycle? : (s : State) → Dec (OnCycle s)
 onCycle? empty = yes tt
 onCycle? full = yes tt
@@ -55,6 +59,7 @@ SameBit full t = ⊥
 SameBit broken t = ⊥
 SameBit (active i v) t = HasBit i t
 
+-- whether they are
 abbrev pub sameBit? : (s t : State) → Dec (SameBit s t)
 sameBit? empty t = no (λ e. e)
 sameBit? full t = no (λ e. e)
@@ -85,6 +90,7 @@ planFrom F st i nowhere nowhere = erase
 unfoldable pub plan : ℕ → (ℕ → State) → ℕ → ℕ → Plan
 plan F st m i = planFrom F st i (first (λ j. hasBit? i (st j)) m) (first (λ j. isEmpty? (st j)) m)
 
+-- the parity of the block found, or 0
 abbrev pub valueAt : ℕ → (ℕ → State) → Found → ℕ
 valueAt F st (at j) = weight F (st j) % 2
 valueAt F st nowhere = 0
@@ -103,6 +109,7 @@ states k L xs j = stateOf k L (block k xs j)
 unfoldable pub read : ℕ → ℕ → ℕ → List ℕ → ℕ → ℕ
 read k L m xs i = bitOf (k * L) (states k L xs) m i
 
+-- a plan written to the cells
 abbrev pub carryOut : ℕ → ℕ → List ℕ → Plan → Result (List ℕ)
 carryOut k L xs (put j s) = done (store k xs j (cellsOf k L s))
 carryOut k L xs erase = noPlace
@@ -125,6 +132,7 @@ NoRepeat m st = (j : ℕ) → j < m → (x : ℕ) → x < j → ¬ (SameBit (st 
 abbrev pub BlocksOk : ℕ → ℕ → ℕ → List ℕ → Type 0
 BlocksOk k L m xs = AllOnCycle m (states k L xs) × NoRepeat m (states k L xs)
 
+-- whether they do
 unfoldable pub blocksOk? : (k L m : ℕ) (xs : List ℕ) → Dec (BlocksOk k L m xs)
 blocksOk? k L m xs =
     both? (all? (λ j. onCycle? (states k L xs j)) m)
@@ -138,5 +146,6 @@ Spare a n xs = drop a xs ≡ replicate (n - a) 0
 abbrev pub Sound : ℕ → ℕ → ℕ → ℕ → List ℕ → Type 0
 Sound k L m n xs = BlocksOk k L m xs × Spare (m * k) n xs
 
+-- whether it does
 unfoldable pub sound? : (k L m n : ℕ) (xs : List ℕ) → Dec (Sound k L m n xs)
 sound? k L m n xs = both? (blocksOk? k L m xs) (same? (drop (m * k) xs) (replicate (n - m * k) 0))

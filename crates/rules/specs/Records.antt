@@ -1,13 +1,10 @@
 -- What the drive program makes of one record (01, "The drive program"). Assumes nothing.
-use mathlib.Core.Path.{_≡_}
-use mathlib.Core.Logic.{_⊎_, inl, inr}
 use mathlib.Core.List.{List, _++_}
-use Prim.Native.Nat.{ℕ, zero, suc, _+_, _*_, _≤_, _<_}
+use Prim.Native.Nat.{ℕ, zero, suc, _+_, _*_}
 use native.Mathlib.Decide.{ℕ-discrete, decLe, decLt}
 use lib.ListN.{length, getD, take, drop, replicate}
-use Rattle.rules.specs.Search.{pick}
 use Rattle.rules.specs.Accept.{accept}
-use Rattle.rules.specs.Calls.{ask, andThen, Outcome, eraseCall, changeCall, readCall}
+use Rattle.rules.specs.Calls.{ask, andThen, eraseCall, changeCall, readCall}
 use Rattle.rules.specs.declared.Settings.{Settings}
 use Rattle.rules.specs.declared.Answer.{Answer}
 use Rattle.rules.specs.declared.Answer.the-variants.{Done, BadShape, BadLength, ShortOutput, BadBit, BadLevel, BadSheet, Erase, BadRecord}
@@ -16,22 +13,27 @@ use Rattle.rules.specs.declared.Check.the-variants.{Pass, Refuse}
 
 -- ---- the bytes of a record
 
+-- byte 0: the operation
 abbrev pub operation : List ℕ → ℕ
 operation rec = getD rec 0 0
 
+-- byte 1: the kind
 abbrev pub kindAsked : List ℕ → ℕ
 kindAsked rec = getD rec 1 0
 
+-- byte 2: k
 abbrev pub bitsAsked : List ℕ → ℕ
 bitsAsked rec = getD rec 2 0
 
+-- byte 3: L
 abbrev pub topAsked : List ℕ → ℕ
 topAsked rec = getD rec 3 0
 
--- two bytes, low first
+-- bytes 4 and 5: n, low first
 abbrev pub cellsAsked : List ℕ → ℕ
 cellsAsked rec = getD rec 4 0 + 256 * getD rec 5 0
 
+-- byte 6: the bit
 abbrev pub bitNamed : List ℕ → ℕ
 bitNamed rec = getD rec 6 0
 
@@ -94,10 +96,12 @@ changeStep r xs i = record { answer = changeCall r (take (r .n) xs) i .answer; s
 abbrev pub readStep : Settings → List ℕ → Step
 readStep r xs = keep r xs (readCall r (take (r .n) xs) (replicate (r .k) 0) .answer)
 
+-- the step where the tests pass; else a refused record
 abbrev pub passed : Check → Settings → List ℕ → Step → Step
 passed Pass r xs s = s
 passed (Refuse a) r xs s = keep r xs a
 
+-- by the operation: its own tests, then its work
 abbrev pub byOperation : ℕ → List ℕ → Settings → List ℕ → Step
 byOperation zero rec r xs = keep r xs BadRecord
 byOperation (suc zero) rec r xs = passed (checkUnused rec) r xs (eraseStep (accept (kindAsked rec) (bitsAsked rec) (topAsked rec) (cellsAsked rec)) r xs)

@@ -1,7 +1,7 @@
 -- Choices, and the first place where a test holds. Assumes nothing.
-use mathlib.Core.Path.{_≡_, refl, sym, subst}
+use mathlib.Core.Path.{sym, subst}
 use mathlib.Core.Logic.{⊎-elim}
-use Prim.Native.Nat.{ℕ, zero, suc, _≤_, _<_}
+use Prim.Native.Nat.{ℕ, zero, suc, _<_}
 use native.Mathlib.Nat.{le-refl, le-of-suc-le-suc, not-suc-le-zero, eq-or-lt-of-le}
 use native.Mathlib.Omega.{arith}
 
@@ -43,10 +43,12 @@ pub data Found : Type 0 where
   at : ℕ → Found
   nowhere : Found
 
+-- the first of two places
 abbrev pub orElse : Found → Found → Found
 orElse (at j) o = at j
 orElse nowhere o = o
 
+-- place m where A holds
 abbrev pub here : {A : Type 0} → Dec A → ℕ → Found
 here (yes a) m = at m
 here (no h) m = nowhere

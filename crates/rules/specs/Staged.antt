@@ -1,8 +1,7 @@
 -- Staged sheets (01, "Staged rules"): k = 2 ^ s bits, m blocks of k cells, and from stage 1 up a list of index blocks. Assumes nothing.
 -- A stage is told by how many stages are left, d: stage 0 has s - 1 left and the last has none, so that stage s - 1 - d has d left.
-use mathlib.Core.Path.{_≡_}
 use mathlib.Core.List.{List, _++_}
-use Prim.Native.Nat.{ℕ, zero, suc, _+_, _-_, _*_, _^_, _≤_}
+use Prim.Native.Nat.{ℕ, zero, suc, _-_, _*_, _^_}
 use native.Mathlib.Decide.{ℕ-discrete, decLe}
 use lib.ListN.{length, replicate}
 use Rattle.rules.specs.Search.{pick, Result, done, noPlace}
@@ -55,10 +54,12 @@ unfoldable pub read : ℕ → ℕ → ℕ → Sheet → ℕ → ℕ
 read s m L (stage0 xs) y = P.read (2 ^ s) L m xs y
 read s m L (staged d xs es) y = valueOf (parityLength d * L) (parityBlocks s m d xs) es y
 
+-- from stage 0: what the plain map makes of the m blocks, or a later stage
 abbrev pub fromStage0 : ℕ → ℕ → ℕ → List ℕ → List ℕ → Result (List ℕ) → Result Sheet
 fromStage0 s m L xs vs (done ys) = done (stage0 ys)
 fromStage0 s m L xs vs noPlace = later s m L (s - 1) xs vs
 
+-- from a later stage: what the change within it makes, or a still later one
 abbrev pub fromStaged : ℕ → ℕ → ℕ → ℕ → List ℕ → List ℕ → Within → Result Sheet
 fromStaged s m L d xs vs (stay bs es) = done (staged d (join bs) es)
 fromStaged s m L d xs vs beyond = later s m L d xs vs
@@ -75,18 +76,22 @@ abbrev pub SheetOk : ℕ → ℕ → ℕ → Sheet → Type 0
 SheetOk s m L (stage0 xs) = P.BlocksOk (2 ^ s) L m xs
 SheetOk s m L (staged d xs es) = StageOk (2 ^ s) (parityLength d * L) (parityBlocks s m d xs) es
 
+-- whether it keeps them
 unfoldable pub sheetOk? : (s m L : ℕ) (x : Sheet) → Dec (SheetOk s m L x)
 sheetOk? s m L (stage0 xs) = P.blocksOk? (2 ^ s) L m xs
 sheetOk? s m L (staged d xs es) = stageOk? (2 ^ s) (parityLength d * L) (parityBlocks s m d xs) es
 
 -- ---- on cells, over what the cells mean and how a sheet is written back
 
+-- the reading of bit y
 unfoldable pub readCells : ℕ → ℕ → ℕ → (List ℕ → Sheet) → List ℕ → ℕ → ℕ
 readCells s m L decode f y = read s m L (decode f) y
 
+-- a sheet that was made is written back
 abbrev pub written : (List ℕ → Sheet → List ℕ) → List ℕ → Result Sheet → Result (List ℕ)
 written write f (done y) = done (write f y)
 written write f noPlace = noPlace
 
+-- the change of bit i
 unfoldable pub changeCells : ℕ → ℕ → ℕ → (List ℕ → Sheet) → (List ℕ → Sheet → List ℕ) → ℕ → List ℕ → Result (List ℕ)
 changeCells s m L decode write i f = written write f (change s m L i (decode f))

@@ -8,6 +8,7 @@ ghost use Rattle.rules.specs.Accept.{mostBits, mostTop, mostStages, acce
 ghost use Rattle.rules.specs.AcceptLaws.{PlainFacts, StagedFacts};
 ghost use Rattle.rules.specs.Calls.{settingsCall};
 use crate::Answer;
+use crate::REFUSED;
 use crate::Settings;
 use crate::Setup;
 
@@ -22,17 +23,6 @@ const MOST_TOP: usize = 255;
 
 // The most cells.
 const MOST_CELLS: usize = 16384;
-
-// The record of zeros.
-const REFUSED: Settings = Settings {
-    kind: 0,
-    k: 0,
-    top: 0,
-    n: 0,
-    m: 0,
-    s: 0,
-    w: 0,
-};
 
 impl Settings {
     // The call: the guarantee and the record, or BadShape and the record of zeros.

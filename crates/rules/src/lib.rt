@@ -15,6 +15,17 @@ pub struct Settings {
     pub w: usize,
 }
 
+// The record of zeros: what refused settings give.
+pub const REFUSED: Settings = Settings {
+    kind: 0,
+    k: 0,
+    top: 0,
+    n: 0,
+    m: 0,
+    s: 0,
+    w: 0,
+};
+
 // What a call answers, with its value where it has one.
 pub enum Answer {
     Done(usize),

@@ -1,21 +1,21 @@
 -- Laws of plain sheets for the calls: check 6 by the scan and the spare cells, and the maps by the place found. Assumes nothing.
-use mathlib.Core.Path.{_≡_, refl, sym, ap, ap₂, _∙_, subst, subst₂}
+use mathlib.Core.Path.{_≡_, sym, ap, ap₂, _∙_, subst, subst₂}
 use mathlib.Core.Bool.{Bool, true, false, true≢false}
 use mathlib.Core.List.{List, _++_}
 use Prim.Native.Nat.{ℕ, suc, _+_, _-_, _*_, _%_, _≤_, _<_}
 use native.Mathlib.Omega.{arith}
 use lib.ListN.{length, getD, take, drop, replicate, length-drop}
 use lib.Seq.{take-all}
-use Rattle.rules.specs.Search.{pick, nowhere, Result, done, noPlace}
+use Rattle.rules.specs.Search.{pick, nowhere}
 use Rattle.rules.specs.Cells.{sum, same?, block, store, firstAbove}
 use Rattle.rules.specs.Block.{cycle}
-use Rattle.rules.specs.Plain.{Spare, BlocksOk}
+use Rattle.rules.specs.Plain.{Spare}
 use Rattle.rules.specs.AcceptLaws.{PlainFacts}
 use Rattle.rules.specs.Calls.{Sound, readBit, bitsOf, eraseChecks, readCall}
 use Rattle.rules.specs.Promises.{outcome, readOut}
 use Rattle.rules.specs.declared.Settings.{Settings}
-use Rattle.rules.specs.declared.Answer.the-variants.{Done, BadSheet, Erase}
-use Rattle.laws.specs.Calls.{sheet-broken, sheet-maps, size-passed, read-sound}
+use Rattle.rules.specs.declared.Answer.the-variants.{Done, Erase}
+use Rattle.laws.specs.Calls.{sheet-maps, size-passed, read-sound}
 use Rattle.laws.specs.Lists.{tabulate-same}
 use Rattle.rules.specs.declared.Check.the-variants.{Pass}
 use Rattle.block.specs.Laws.{fine-low}
@@ -47,6 +47,7 @@ part-zeros a n xs e =
 pub spare-true : (a n : ℕ) (xs : List ℕ) {r : Bool} → length xs ≡ n → r ≡ pick (same? (partFrom a xs) (replicate (length (partFrom a xs)) 0)) true false → r ≡ true → Spare a n xs
 spare-true a n xs e p t = sym (part-drop a xs) ∙ test-true (same? (partFrom a xs) (replicate (length (partFrom a xs)) 0)) p t ∙ part-zeros a n xs e
 
+-- or that they are not
 pub spare-false : (a n : ℕ) (xs : List ℕ) {r : Bool} → length xs ≡ n → r ≡ pick (same? (partFrom a xs) (replicate (length (partFrom a xs)) 0)) true false → r ≡ false → ¬ (Spare a n xs)
 spare-false a n xs e p t h =
     test-false (same? (partFrom a xs) (replicate (length (partFrom a xs)) 0)) p t (part-drop a xs ∙ h ∙ sym (part-zeros a n xs e))
@@ -74,7 +75,8 @@ pub record Stepped (r : Settings) (xs : List ℕ) (i j w : ℕ) : Type 0 where
   pub cells : block (r .k) xs j ≡ cycle (r .k) (r .top) i w
   pub made : outcome (Done 1) (store (r .k) xs j (cycle (r .k) (r .top) i (w + 1))) ≡ fromSheet r xs i
 
-one-raised : {a b : ℕ} → a ≡ suc b → 1 ≡ a - b
+-- a sum one higher is one level raised
+pub one-raised : {a b : ℕ} → a ≡ suc b → 1 ≡ a - b
 one-raised e = omega arith
 
 module _ (r : Settings) (xs : List ℕ) (f : PlainFacts r) (v : Levelled r xs) (s : Scan) (h : Scanned (r .k) (r .top) (r .m) xs s) where
@@ -82,6 +84,7 @@ module _ (r : Settings) (xs : List ℕ) (f : PlainFacts r) (v : Levelled r xs) (
   pub plain-broken : s .sound ≡ false → ¬ (Sound r xs)
   plain-broken e q = h .broken e (plain-sound r f xs q .0)
 
+  -- a spare cell above 0 breaks the rules
   pub plain-unspare : ¬ (Spare (r .m * r .k) (r .n) xs) → ¬ (Sound r xs)
   plain-unspare n q = n (plain-sound r f xs q .1)
 
@@ -97,6 +100,7 @@ module _ (r : Settings) (xs : List ℕ) (f : PlainFacts r) (v : Levelled r xs) (
     inside : r .m * r .k ≤ length xs
     inside = subst (λ (n : ℕ). r .m * r .k ≤ n) (sym (v .long)) (f .inside)
 
+    -- the place found is that of the rules
     pub plain-place : (i : ℕ) → i < r .k → PlaceOf (r .k) (r .top) (r .m) i xs (placeIn s i (r .m))
     plain-place i l = scanned-place (r .k) (r .top) (r .m) i xs s (f .bits-least) (f .top-least) inside l h t
 
@@ -105,6 +109,7 @@ module _ (r : Settings) (xs : List ℕ) (f : PlainFacts r) (v : Levelled r xs) (
     none-from i (step j w l b q e) n = absurd (let y : _≡_ {A = ℕ} 0 1 = cc in omega arith)
     none-from i (erase e) n = sym (sheet-maps r xs i plain-keeps (plain-change r f xs i ∙ e))
 
+    -- no place found is answered Erase
     pub plain-erase : (i : ℕ) → i < r .k → placeIn s i (r .m) ≡ Nowhere → outcome Erase xs ≡ fromSheet r xs i
     plain-erase i l n = none-from i (plain-place i l) n
 
@@ -121,6 +126,7 @@ module _ (r : Settings) (xs : List ℕ) (f : PlainFacts r) (v : Levelled r xs) (
         })
     step-from i j w l (erase e) n = absurd (let y : _≡_ {A = ℕ} 0 1 = cc in omega arith)
 
+    -- a place is a step of the bit's cycle
     pub plain-step : (i j w : ℕ) → i < r .k → placeIn s i (r .m) ≡ At j w → Stepped r xs i j w
     plain-step i j w l n = step-from i j w l (plain-place i l) n
 

@@ -1,24 +1,23 @@
 -- Laws of going on to a later stage: how many parity blocks are live there, and that its batch is still all 0. Assumes nothing.
 use mathlib.Core.Path.{_≡_, refl, sym, ap, ap₂, _∙_, subst, subst₂}
-use mathlib.Core.List.{List, [], _∷_}
+use mathlib.Core.List.{List, []}
 use Prim.Native.Nat.{ℕ, zero, suc, _+_, _-_, _*_, _%_, _^_, _≤_, _<_}
-use native.Mathlib.Decide.{decLe, ℕ-discrete}
+use native.Mathlib.Decide.{decLe}
 use native.Mathlib.Nat.{le-refl}
 use native.Mathlib.Omega.{arith}
-use lib.ListN.{length, getD, take, drop, replicate, length-drop}
+use lib.ListN.{length, getD, take, replicate}
 use lib.Pow.{pow-pos}
 use lib.Seq.{length-take-le}
-use Rattle.rules.specs.Search.{pick, Found, at, nowhere, Result, done}
+use Rattle.rules.specs.Search.{Found, at, nowhere, done}
 use Rattle.rules.specs.SearchLaws.{pick-elim}
 use Rattle.rules.specs.Cells.{Low, sum, tabulate, chop}
-use Rattle.rules.specs.Staged.{Sheet, parityLength, parityCount, liveCount, after, later, change, moveTo, written, changeCells}
+use Rattle.rules.specs.Staged.{parityLength, parityCount, liveCount, after, later, change, moveTo, written, changeCells}
 use Rattle.rules.specs.Batches.{batchCells, batch, decode, write}
 use Rattle.rules.specs.AcceptLaws.{StagedFacts, staged-bits}
 use Rattle.rules.specs.Calls.{Sound, changeSheet}
 use Rattle.rules.specs.declared.Settings.{Settings}
 use Rattle.laws.specs.Parity.{half-live}
 use Rattle.laws.specs.Calls.{sheet-maps}
-use Rattle.laws.specs.Cut.{length-block}
 use Rattle.laws.specs.Kinds.{staged-change}
 use Rattle.laws.specs.Lists.{low-take}
 use Rattle.laws.specs.Live.{live}
@@ -31,7 +30,7 @@ use Rattle.moving.specs.RulesLaws.{live-is, move-is}
 use Rattle.moving.specs.Meaning as M
 use Rattle.sheet.specs.Meaning.{Levelled, fromSheet}
 use Rattle.sheet.specs.LayoutLaws.{cells-most, batch-are, batch-inside, parity-cells, length-most}
-use Rattle.sheet.specs.StageLaws.{batch-part}
+use Rattle.sheet.specs.StageLaws.{batch-length, batch-part}
 use Rattle.sheet.specs.ZeroLaws.{cells-in}
 use Rattle.staged.specs.Meaning.{laterLeft, laterFrom, moved}
 use Rattle.staged.specs.Laws.{later-is, later-from}
@@ -107,12 +106,6 @@ module _ (r : Settings) (p : StagedFacts r) (f : List ℕ) (v : Levelled r f) wh
       ∙ ap (λ (x : ℕ). laterFrom (2 ^ r .s) (r .top) (parityCount (r .s) (r .m) d) d (take x f)) e₁
       ∙ later-from (r .s) (r .m) (r .top) d (take (r .m * 2 ^ r .s) f) h
 
-  -- a batch has its cells
-  batch-length : (e : ℕ) → e < r .s - 1 → length (batch (r .s) (r .m) (r .w) f e) ≡ batchCells (r .s) (r .w)
-  unfolding batch
-  batch-length e l = length-block (batchCells (r .s) (r .w)) (drop (r .m * 2 ^ r .s) f) (r .s - 2 - e)
-      (omega (arith, length-drop (r .m * 2 ^ r .s) f, v .long, batch-inside r p e l))
-
   -- what the move asks for
   pub move-roomy : (e a len count : ℕ) → MoveFits r f e → a ≡ r .m * 2 ^ r .s + (r .s - 2 - e) * batchCells (r .s) (r .w) → len ≡ parityLength e → count ≡ parityCount (r .s) (r .m) e
       → Roomy a len count (r .w) (r .k) (r .top) f
@@ -121,7 +114,7 @@ module _ (r : Settings) (p : StagedFacts r) (f : List ℕ) (v : Levelled r f) wh
       let q : count * len ≡ r .m * 2 ^ r .s = ap₂ (λ (x y : ℕ). x * y) e₃ e₂ ∙ parity-cells r p e h in
       let b : 2 * (r .k - 1) * r .w ≡ batchCells (r .s) (r .w) = batch-are r p in
       let z : batch (r .s) (r .m) (r .w) f e ≡ replicate (batchCells (r .s) (r .w)) 0 =
-      sum-zero (batch (r .s) (r .m) (r .w) f e) (g .dark) ∙ ap {B = List ℕ} (λ x. replicate x 0) (batch-length e (g .stage)) in
+      sum-zero (batch (r .s) (r .m) (r .w) f e) (g .dark) ∙ ap {B = List ℕ} (λ x. replicate x 0) (batch-length r p f v e (g .stage)) in
       record {
         some = omega (arith, staged-bits r p .0);
         few = omega (arith, staged-bits r p .1);

@@ -1,36 +1,33 @@
 -- Laws of a staged sheet at a stage from 1 up, as its parts are lent to the scan. Assumes nothing.
-use mathlib.Core.Path.{_≡_, refl, sym, ap, ap₂, _∙_, subst, subst₂}
-use mathlib.Core.Bool.{true, false}
-use mathlib.Core.List.{List, map}
-use Prim.Native.Nat.{ℕ, zero, suc, _+_, _-_, _*_, _%_, _^_, _≤_, _<_}
-use native.Mathlib.Nat.{pow-suc, pow-zero, mul-le-mul, not-suc-le-zero, le-refl}
+use mathlib.Core.Path.{_≡_, refl, sym, ap, _∙_, subst, subst₂}
+use mathlib.Core.List.{List}
+use Prim.Native.Nat.{ℕ, zero, suc, _+_, _-_, _*_, _^_, _≤_, _<_}
+use native.Mathlib.Nat.{pow-suc, pow-zero, mul-le-mul}
 use native.Mathlib.Omega.{arith}
-use lib.ListN.{length, getD, take, drop, length-drop}
+use lib.ListN.{length, take, drop}
 use lib.Pow.{pow-pos}
 use lib.Seq.{length-take-le}
 use Rattle.rules.specs.Search.{at}
 use Rattle.rules.specs.Cells.{Low, chop}
-use Rattle.rules.specs.Stage.{Entry, StageOk}
 use Rattle.rules.specs.Staged.{parityLength, parityCount, parityBlocks, indexBlocks}
 use Rattle.rules.specs.Staged as S
-use Rattle.rules.specs.Batches.{batchCells, batch, entryOf}
+use Rattle.rules.specs.Batches.{batchCells, batch}
 use Rattle.rules.specs.AcceptLaws.{StagedFacts, staged-bits}
-use Rattle.rules.specs.Calls.{Sound, readBit}
 use Rattle.rules.specs.declared.Settings.{Settings}
 use Rattle.laws.specs.Lists.{low-take, low-drop}
-use Rattle.stage.specs.Meaning.{entries, BatchFits, StageFits, StageScanned}
+use Rattle.stage.specs.Meaning.{entries, StageFits, StageScanned}
 use Rattle.stage.specs.PlaceLaws.{stage-read}
 use Rattle.stage.specs.declared.StageScan.{StageScan}
 use Rattle.sheet.specs.Meaning.{Levelled, BitsOf}
-use Rattle.sheet.specs.LayoutLaws.{cells-most, batch-are, batch-inside, parity-cells, length-most}
-use Rattle.sheet.specs.StageLaws.{AtStage, stage-sound, sound-stage, read-stage, batch-part}
+use Rattle.sheet.specs.LayoutLaws.{cells-most, batch-inside, parity-cells}
+use Rattle.sheet.specs.StageLaws.{AtStage, stage-sound, sound-stage, read-stage, batch-length, batch-part}
 use Rattle.sheet.specs.ZeroLaws.{cells-in}
-use Rattle.sheet.specs.declared.Bits.{Bits}
 
--- the m blocks, and what the index blocks of the stage with d left say
+-- the m blocks
 abbrev pub mBlocks : Settings → List ℕ → List ℕ
 mBlocks r f = take (r .m * 2 ^ r .s) f
 
+-- the batch of the stage with d left
 abbrev pub stageBatch : Settings → List ℕ → ℕ → List ℕ
 stageBatch r f d = batch (r .s) (r .m) (r .w) f d
 
@@ -53,11 +50,7 @@ module _ (r : Settings) (p : StagedFacts r) (f : List ℕ) (v : Levelled r f) wh
   narrow = narrow-from (r .k) (r .top) (r .w) (omega (arith, staged-bits r p .1)) (p .top-most) (p .least)
 
   module _ (d : ℕ) (h : d < r .s - 1) where
-    batch-long : length (stageBatch r f d) ≡ batchCells (r .s) (r .w)
-    batch-long = sym (ap length (batch-part r p f d _ refl))
-        ∙ length-take-le (batchCells (r .s) (r .w)) (drop (r .m * 2 ^ r .s + (r .s - 2 - d) * batchCells (r .s) (r .w)) f)
-        (omega (arith, length-drop (r .m * 2 ^ r .s + (r .s - 2 - d) * batchCells (r .s) (r .w)) f, v .long, batch-inside r p d h))
-
+    -- no level of the batch is above L
     batch-low : Low (r .top) (stageBatch r f d)
     batch-low =
         let a : ℕ = r .m * 2 ^ r .s + (r .s - 2 - d) * batchCells (r .s) (r .w) in
@@ -77,7 +70,7 @@ module _ (r : Settings) (p : StagedFacts r) (f : List ℕ) (v : Levelled r f) wh
           short = omega (arith, cells-most r p);
           level = p .top-least;
           low = low-take (r .top) (r .m * 2 ^ r .s) f (v .low);
-          indexed = record { holds = omega (arith, batch-long); short = omega (arith, batch-long, batch-inside r p d h, p .cells-most); narrow = narrow; low = batch-low };
+          indexed = record { holds = omega (arith, batch-length r p f v d h); short = omega (arith, batch-length r p f v d h, batch-inside r p d h, p .cells-most); narrow = narrow; low = batch-low };
         }
 
     module _ (c a b len count : ℕ) (e₁ : c ≡ r .m * 2 ^ r .s) (e₂ : a ≡ r .m * 2 ^ r .s + (r .s - 2 - d) * batchCells (r .s) (r .w)) (e₃ : b ≡ batchCells (r .s) (r .w))
@@ -92,11 +85,13 @@ module _ (r : Settings) (p : StagedFacts r) (f : List ℕ) (v : Levelled r f) wh
       pub batch-end : a + b ≤ length f
       batch-end = omega (arith, batch-inside r p d h, v .long)
 
+      -- what the scan asks for, as they are lent
       pub stage-asks : StageFits len count (r .w) (r .k) (r .top) (take c f) (take (a + b - a) (drop a f))
       stage-asks = subst₂ (λ (xs ys : List ℕ). StageFits len count (r .w) (r .k) (r .top) xs ys) (sym cut) (sym lent)
           (subst₂ (λ (x y : ℕ). StageFits x y (r .w) (r .k) (r .top) (mBlocks r f) (stageBatch r f d)) (sym e₄) (sym e₅)
           (subst (λ (k : ℕ). StageFits (parityLength d) (parityCount (r .s) (r .m) d) (r .w) k (r .top) (mBlocks r f) (stageBatch r f d)) (p .bits) stage-fits))
 
+      -- and what it says of the stage
       pub stage-told : (s : StageScan) → StageScanned (r .k) (len * r .top) (chop len count (take c f)) (entries (r .top) (r .w) (2 * (r .k - 1)) (take (a + b - a) (drop a f))) s → ScannedAt r f d s
       stage-told s g =
           subst (λ (k : ℕ). StageScanned k (parityLength d * r .top) (parityBlocks (r .s) (r .m) d (mBlocks r f)) (entries (r .top) (r .w) (2 * (k - 1)) (stageBatch r f d)) s) (sym (p .bits))

@@ -1,27 +1,26 @@
 -- Laws of the stage that a staged sheet is in: its rules and its reading are those of that stage. Assumes nothing.
-use mathlib.Core.Path.{_≡_, refl, sym, ap, ap₂, _∙_, subst}
+use mathlib.Core.Path.{_≡_, sym, ap, _∙_, subst}
 use mathlib.Core.Bool.{Bool, true, false}
-use mathlib.Core.List.{List, map}
-use Prim.Native.Nat.{ℕ, zero, suc, _+_, _-_, _*_, _%_, _^_, _≤_, _<_}
+use mathlib.Core.List.{List}
+use Prim.Native.Nat.{ℕ, _+_, _-_, _*_, _^_, _≤_, _<_}
 use native.Mathlib.Decide.{decLt}
 use native.Mathlib.Omega.{arith}
-use lib.ListN.{length, getD, take, drop, replicate}
+use lib.ListN.{length, take, drop, replicate, length-drop}
 use lib.Seq.{drop-drop}
 use Rattle.rules.specs.Search.{pick, Found, at, nowhere, first}
 use Rattle.rules.specs.SearchLaws.{First, hit, miss, first-is}
-use Rattle.rules.specs.Cells.{sum, same?, block, chop}
-use Rattle.rules.specs.Plain.{Spare, BlocksOk}
-use Rattle.rules.specs.Plain as P
-use Rattle.rules.specs.Stage.{StageOk, valueOf}
-use Rattle.rules.specs.Staged.{Sheet, stage0, staged, parityLength, parityCount, parityBlocks, indexBlocks, SheetOk, readCells}
+use Rattle.rules.specs.Cells.{sum, same?, block}
+use Rattle.rules.specs.Plain.{Spare}
+use Rattle.rules.specs.Staged.{Sheet, SheetOk, readCells}
 use Rattle.rules.specs.Staged as S
-use Rattle.rules.specs.Batches.{batchCells, indexCells, batch, sheetAt, decode, entryOf}
-use Rattle.rules.specs.AcceptLaws.{StagedFacts}
+use Rattle.rules.specs.Batches.{batchCells, indexCells, batch, sheetAt, decode}
+use Rattle.rules.specs.AcceptLaws.{StagedFacts, staged-inside}
 use Rattle.rules.specs.Calls.{Sound, readBit}
 use Rattle.rules.specs.declared.Settings.{Settings}
 use Rattle.sheet.specs.Meaning.{Levelled}
 use Rattle.sheet.specs.Laws.{partFrom, spare-true, spare-false}
-use Rattle.sheet.specs.LayoutLaws.{inside}
+use Rattle.sheet.specs.LayoutLaws.{batch-inside}
+use Rattle.laws.specs.Cut.{length-block}
 use Rattle.laws.specs.Kinds.{staged-sound, sound-staged, staged-read}
 
 -- the stages whose batch has a cell above 0: the search that tells the stage
@@ -55,6 +54,7 @@ module _ (r : Settings) (p : StagedFacts r) (f : List ℕ) where
     pub stage-sound : SheetOk (r .s) (r .m) (r .top) (meaning r f x) → Sound r f
     stage-sound h = sound-staged r p f (subst (SheetOk (r .s) (r .m) (r .top)) (sym decode-at) h, a .spare)
 
+    -- and conversely
     pub sound-stage : Sound r f → SheetOk (r .s) (r .m) (r .top) (meaning r f x)
     sound-stage h = subst (SheetOk (r .s) (r .m) (r .top)) decode-at (staged-sound r p f h .0)
 
@@ -68,6 +68,7 @@ module _ (r : Settings) (p : StagedFacts r) (f : List ℕ) where
   found-below (hit j l h b) d e = let z : j ≡ d = cc in omega arith
   found-below (miss b) d e = absurd (let z : _≡_ {A = ℕ} 0 1 = cc in omega arith)
 
+  -- a stage found is from 1 up
   pub stage-below : (d : ℕ) → stageFound r f ≡ at d → d < r .s - 1
   stage-below d e = found-below (first-is (λ d. decLt 0 (sum (batch (r .s) (r .m) (r .w) f d))) (r .s - 1)) d e
 
@@ -83,9 +84,11 @@ module _ (r : Settings) (p : StagedFacts r) (f : List ℕ) where
   dark-left : (e : ℕ) → e < leftAt (stageFound r f) → sum (batch (r .s) (r .m) (r .w) f e) ≡ 0
   dark-left e q = dark-from (first-is (λ d. decLt 0 (sum (batch (r .s) (r .m) (r .w) f d))) (r .s - 1)) e q
 
+  -- at a stage from 1 up
   pub dark-staged : (d : ℕ) → stageFound r f ≡ at d → (e : ℕ) → e < d → sum (batch (r .s) (r .m) (r .w) f e) ≡ 0
   dark-staged d q e l = dark-left e (subst (λ (x : Found). e < leftAt x) (sym q) l)
 
+  -- and at stage 0
   pub dark-zero : stageFound r f ≡ nowhere → (e : ℕ) → e < r .s - 1 → sum (batch (r .s) (r .m) (r .w) f e) ≡ 0
   dark-zero q e l = dark-left e (subst (λ (x : Found). e < leftAt x) (sym q) l)
 
@@ -95,15 +98,21 @@ module _ (r : Settings) (p : StagedFacts r) (f : List ℕ) where
   batch-part d a e = ap (λ (x : ℕ). take (batchCells (r .s) (r .w)) (drop x f)) e
       ∙ ap (take (batchCells (r .s) (r .w))) (sym (drop-drop ((r .s - 2 - d) * batchCells (r .s) (r .w)) (r .m * 2 ^ r .s) f))
 
+-- a batch has its cells
+pub batch-length : (r : Settings) → StagedFacts r → (f : List ℕ) → Levelled r f → (d : ℕ) → d < r .s - 1 → length (batch (r .s) (r .m) (r .w) f d) ≡ batchCells (r .s) (r .w)
+unfolding batch
+batch-length r p f v d h = length-block (batchCells (r .s) (r .w)) (drop (r .m * 2 ^ r .s) f) (r .s - 2 - d) (omega (arith, length-drop (r .m * 2 ^ r .s) f, v .long, batch-inside r p d h))
+
 -- ---- the spare cells, as they are lent
 
 module _ (r : Settings) (p : StagedFacts r) (f : List ℕ) (v : Levelled r f) (a : ℕ) (e : a ≡ spareAt r) where
   pub spare-in : a ≤ length f
-  spare-in = omega (arith, inside r p, v .long)
+  spare-in = omega (arith, staged-inside r p, v .long)
 
 module _ (r : Settings) (f : List ℕ) (v : Levelled r f) (a : ℕ) (e : a ≡ spareAt r) {t : Bool} (q : t ≡ pick (same? (partFrom a f) (replicate (length (partFrom a f)) 0)) true false) where
   pub spare-clear : t ≡ true → Spare (spareAt r) (r .n) f
   spare-clear h = subst (λ (x : ℕ). Spare x (r .n) f) e (spare-true a (r .n) f (v .long) q h)
 
+  -- or that they are not
   pub spare-taken : t ≡ false → ¬ (Spare (spareAt r) (r .n) f)
   spare-taken h s = spare-false a (r .n) f (v .long) q h (subst (λ (x : ℕ). Spare x (r .n) f) (sym e) s)

@@ -25,21 +25,20 @@ use Rattle.laws.specs.Calls.{sheet-broken, sheet-maps}
 use Rattle.laws.specs.Cut.{length-block, length-store, low-block, low-store, store-back, store-sum, sum-split}
 use Rattle.laws.specs.Index.{digits-low, length-digits}
 use Rattle.laws.specs.Kinds.{staged-change}
-use Rattle.laws.specs.Lists.{low-append, low-drop, low-take, sum-append, sum-replicate, tabulate-same}
+use Rattle.laws.specs.Lists.{low-append, low-drop, low-take, sum-append, sum-low, sum-replicate, tabulate-same}
 use Rattle.laws.specs.Put.{put-store}
 use Rattle.laws.specs.Splice.{part, part-part, part-spliced, spliced, spliced-put, sum-spliced}
 use Rattle.laws.specs.Stage.{raise-length, raise-low, raise-sum}
-use Rattle.block.specs.StateLaws.{sum-low}
 use Rattle.stage.specs.Meaning.{PlaceWithin, Stays, at-free, at-none, at-own, entries, placeIn}
 use Rattle.stage.specs.PlaceLaws.{stage-ok, stage-place, stage-read}
 use Rattle.stage.specs.declared.StagePlace.{StagePlace}
 use Rattle.stage.specs.declared.StagePlace.the-variants.{Beyond, Free, Own}
 use Rattle.stage.specs.declared.StageScan.{StageScan}
-use Rattle.sheet.specs.LayoutLaws.{batch-inside, cells-most, length-most, parity-cells}
+use Rattle.sheet.specs.LayoutLaws.{batch-inside, length-most, parity-cells}
 use Rattle.sheet.specs.Meaning.{Levelled, fromSheet}
 use Rattle.sheet.specs.MoveLaws.{Stuck}
 use Rattle.sheet.specs.ScanLaws.{ScannedAt, mBlocks, stage-fits, stageBatch}
-use Rattle.sheet.specs.StageLaws.{AtStage, dark-staged, decode-at, meaning, sound-stage, stage-below, stage-sound}
+use Rattle.sheet.specs.StageLaws.{AtStage, batch-length, dark-staged, decode-at, meaning, sound-stage, stage-below, stage-sound}
 use Rattle.sheet.specs.ZeroLaws.{cells-in}
 
 -- what a place means for the change of bit i at the stage with d left
@@ -167,14 +166,9 @@ module _ (r : Settings) (p : StagedFacts r) (f : List ℕ) (v : Levelled r f) (d
   cells-whole : take (parityCount (r .s) (r .m) d * parityLength d) (mBlocks r f) ≡ mBlocks r f
   cells-whole = take-all (parityCount (r .s) (r .m) d * parityLength d) (mBlocks r f) (omega (arith, parities, blocks-long))
 
-  -- the batch has its cells
-  batch-long : length (stageBatch r f d) ≡ batchCells (r .s) (r .w)
-  unfolding batch
-  batch-long = length-block (batchCells (r .s) (r .w)) rest (r .s - 2 - d) batch-fits
-
-  -- and the index blocks are all of it
+  -- the index blocks are all of the batch
   batch-whole : take (2 * (2 ^ r .s - 1) * r .w) (stageBatch r f d) ≡ stageBatch r f d
-  batch-whole = take-all (2 * (2 ^ r .s - 1) * r .w) (stageBatch r f d) (omega (arith, batch-long))
+  batch-whole = take-all (2 * (2 ^ r .s - 1) * r .w) (stageBatch r f d) (omega (arith, batch-length r p f v d h))
 
   -- a batch that stays as it is
   batch-kept : batchSet r f d (stageBatch r f d) ≡ rest

@@ -7,7 +7,6 @@ use plain::place_of;
 use plain::scan_blocks;
 use rules::Answer;
 use rules::Settings;
-ghost use mathlib.Core.Bool.{false};
 ghost use mathlib.Core.Path.{_≡_};
 ghost use Prim.Native.Nat.{_<_};
 ghost use Rattle.rules.specs.AcceptLaws.{PlainFacts};

@@ -1,12 +1,10 @@
 -- Settings across the boundary: seven numbers are written, or none.
-use mathlib.Core.Path.{_≡_, sym, ap, _∙_}
-use mathlib.Core.List.{List}
+use mathlib.Core.Path.{sym, ap, _∙_}
 use native.Mathlib.Decide.{ℕ-discrete}
 use native.Mathlib.Omega.{arith}
-use lib.ListN.{length, length-set}
+use lib.ListN.{length-set}
 use Rattle.rules.specs.Answer.{numberOf, valueOf}
 use Rattle.rules.specs.SearchLaws.{pick-yes, pick-no}
-use Rattle.rules.specs.declared.Answer.{Answer}
 use Rattle.rules.specs.declared.Setup.{Setup}
 use Rattle.capi.specs.Laws.{seven-set}
 use Rattle.capi.specs.Meaning.{numbersOf}

@@ -2,7 +2,6 @@
 use borrow.Author.Needs.{needs}
 use Rattle.records.proofs.asked_for.Statement.{statement}
 use Rattle.records.proofs.asked_for.Tie as tie
-use Rattle.rules.proofs.Settings.work_out.Reads as work-out-reads
 
 byte-at-requires : tie.Need-byte-at-requires
 byte-at-requires c κs = search needs

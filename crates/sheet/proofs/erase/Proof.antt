@@ -4,7 +4,7 @@ use mathlib.Core.Path.{sym, ap, ap₂, _∙_}
 use Prim.Native.Nat.{ℕ}
 use lib.ListN.{replicate}
 use borrow.Author.Needs.{needs}
-use Rattle.rules.specs.AcceptLaws.{promised-is}
+use Rattle.rules.specs.GuaranteeLaws.{promised-is}
 use Rattle.rules.specs.Promises.{outcome}
 use Rattle.rules.specs.declared.Answer.the-variants.{Done}
 use Rattle.laws.specs.Calls.{erase-first, size-passed}

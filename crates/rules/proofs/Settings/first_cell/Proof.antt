@@ -1,6 +1,7 @@
 -- The first cell of a batch is worked out without overflow.
 use native.Mathlib.Omega.{arith}
-use Rattle.rules.specs.AcceptLaws.{staged-width, batch-inside}
+use Rattle.rules.specs.AcceptLaws.{staged-width}
+use Rattle.rules.specs.GuaranteeLaws.{batch-inside}
 use borrow.Author.Needs.{needs}
 use Rattle.rules.proofs.Settings.first_cell.Statement.{statement}
 use Rattle.rules.proofs.Settings.first_cell.Tie as tie

@@ -1,7 +1,8 @@
 -- Kind 0's guarantee is worked out without overflow.
 use mathlib.Core.Path.{sym}
 use native.Mathlib.Omega.{arith}
-use Rattle.rules.specs.AcceptLaws.{plain-common, counted-cells, counted-levels, guarantee-plain}
+use Rattle.rules.specs.AcceptLaws.{plain-common}
+use Rattle.rules.specs.GuaranteeLaws.{counted-cells, counted-levels, guarantee-plain}
 use borrow.Author.Needs.{needs}
 use Rattle.rules.proofs.Settings.plain_formula.Statement.{statement}
 use Rattle.rules.proofs.Settings.plain_formula.Tie as tie

@@ -1,7 +1,8 @@
 -- Kind 1's guarantee is worked out without overflow, and never below 0.
 use mathlib.Core.Path.{sym}
 use native.Mathlib.Omega.{arith}
-use Rattle.rules.specs.AcceptLaws.{staged-common, staged-bits, levels-most, stages-cost, stages-cost-most, guarantee-staged}
+use Rattle.rules.specs.AcceptLaws.{staged-common, staged-bits}
+use Rattle.rules.specs.GuaranteeLaws.{levels-most, stages-cost, stages-cost-most, guarantee-staged}
 use borrow.Author.Needs.{needs}
 use Rattle.rules.proofs.Settings.staged_formula.Statement.{statement}
 use Rattle.rules.proofs.Settings.staged_formula.Tie as tie

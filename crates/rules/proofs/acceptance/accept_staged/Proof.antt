@@ -1,7 +1,8 @@
 -- Each refusal breaks a rule of kind 1, and what is left keeps them all.
 use mathlib.Core.Path.{refl, sym}
 use native.Mathlib.Omega.{arith}
-use Rattle.rules.specs.AcceptLaws.{stages-bits, width-below, staged-ruled, ruled-kept, ruled-broken}
+use Rattle.rules.specs.StagesLaws.{stages-bits, width-below}
+use Rattle.rules.specs.AcceptLaws.{staged-ruled, ruled-kept, ruled-broken}
 use borrow.Author.Needs.{needs}
 use Rattle.rules.proofs.acceptance.accept_staged.Statement.{statement}
 use Rattle.rules.proofs.acceptance.accept_staged.Tie as tie

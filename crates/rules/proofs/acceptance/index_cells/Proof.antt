@@ -1,6 +1,6 @@
 -- S - 1 batches, worked out without overflow.
 use native.Mathlib.Omega.{arith}
-use Rattle.rules.specs.AcceptLaws.{index-most}
+use Rattle.rules.specs.GuaranteeLaws.{index-most}
 use borrow.Author.Needs.{needs}
 use Rattle.rules.proofs.acceptance.index_cells.Statement.{statement}
 use Rattle.rules.proofs.acceptance.index_cells.Tie as tie

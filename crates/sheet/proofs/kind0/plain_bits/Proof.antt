@@ -1,5 +1,4 @@
 -- A look at a plain sheet: check 6 by the scan and the spare cells, and the weights found.
-use mathlib.Core.Path.{sym, _∙_}
 use borrow.Author.Needs.{needs}
 use borrow.Author.Tests.{not-true, not-false}
 use Rattle.sheet.specs.Laws.{bits-none, bits-some, spare-true, spare-false, plain-broken, plain-unspare, plain-keeps, plain-values}

@@ -1,10 +1,7 @@
 -- The move is the rules' move.
-use mathlib.Core.Path.{sym, ap, _∙_}
-use mathlib.Core.List.{List}
-use Prim.Native.Nat.{ℕ}
+use mathlib.Core.Path.{_∙_}
 use native.Mathlib.Omega.{arith}
 use Rattle.rules.specs.AcceptLaws.{staged-bits}
-use Rattle.moving.specs.RulesLaws.{move-is}
 use Rattle.sheet.specs.MoveLaws.{move-roomy, moved-rules}
 use borrow.Author.Needs.{needs}
 use Rattle.sheet.proofs.kind1.make_move.Statement.{statement}

@@ -2,7 +2,6 @@
 use native.Mathlib.Omega.{arith}
 use Rattle.rules.specs.AcceptLaws.{staged-bits}
 use Rattle.sheet.specs.LayoutLaws.{batch-are, batch-most}
-use borrow.Author.Needs.{needs}
 use Rattle.sheet.proofs.layout.batch_cells.Statement.{statement}
 use Rattle.sheet.proofs.layout.batch_cells.Tie as tie
 

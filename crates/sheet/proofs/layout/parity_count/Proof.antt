@@ -1,5 +1,5 @@
 -- The parity blocks lie in the sheet.
-use mathlib.Core.Path.{ap, _∙_}
+use mathlib.Core.Path.{ap}
 use Prim.Native.Nat.{ℕ, _*_}
 use native.Mathlib.Omega.{arith}
 use Rattle.sheet.specs.LayoutLaws.{count-most}
