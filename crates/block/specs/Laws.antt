@@ -11,13 +11,10 @@ use lib.Dec.{eqb}
 use lib.ListN.{length, getD, take, drop, replicate, set, length-drop, drop-of-length-le, replicate-append-replicate}
 use lib.Seq.{take-suc, take-suc-set, take-all, drop-drop}
 use Rattle.laws.specs.Lists.{low-all, low-at, sum-part}
-use Rattle.rules.specs.Calls.{levelCheck}
 use Rattle.rules.specs.Cells.{Low, block, firstAbove, same?, store, sum}
 use Rattle.rules.specs.Search.{Found, nowhere, pick}
 use Rattle.rules.specs.SearchLaws.{First, miss, first-eq, first-is, pick-elim}
-use Rattle.block.specs.Meaning.{asFound, checkOf, greatestOf, leastOf}
-use Rattle.block.specs.declared.Level.{Level}
-use Rattle.block.specs.declared.Level.the-variants.{Above, Fine}
+use Rattle.block.specs.Meaning.{greatestOf, leastOf}
 
 -- ---- sums
 
@@ -49,12 +46,6 @@ pub greatest-low : (L : ℕ) (s : List ℕ) → greatestOf s ≤ L → Low L s
 unfolding greatestOf
 greatest-low L [] h = tt
 greatest-low L (x ∷ s) h = (omega arith, greatest-low L s (omega arith))
-
--- and the other way
-pub low-greatest : (L : ℕ) (s : List ℕ) → Low L s → greatestOf s ≤ L
-unfolding greatestOf
-low-greatest L [] h = omega arith
-low-greatest L (x ∷ s) h = omega (arith, low-greatest L s (h .1))
 
 -- ---- the least level
 
@@ -100,11 +91,6 @@ unfolding firstAbove
 fine-low L s e =
     let f : First (λ c. L < getD s c 0) (length s) nowhere = subst (First (λ c. L < getD s c 0) (length s)) e (first-is (λ c. decLt L (getD s c 0)) (length s)) in
     low-all L s (λ c l. let n : ¬ (L < getD s c 0) = none-there f c l in omega arith)
-
--- what the check of the levels makes of the place found
-pub check-is : (r : Level) {f : Found} → asFound r ≡ f → checkOf r ≡ levelCheck f
-check-is Fine e = ap levelCheck e
-check-is (Above c) e = ap levelCheck e
 
 -- ---- cells that are all 0
 

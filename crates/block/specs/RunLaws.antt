@@ -9,14 +9,13 @@ use native.Mathlib.Omega.{arith}
 use lib.ListN.{drop, getD, length, length-drop, length-take, take}
 use lib.Seq.{length-take-le}
 use Rattle.laws.specs.Cut.{block-fits, low-block}
-use Rattle.laws.specs.Lists.{low-drop, low-take}
+use Rattle.laws.specs.Lists.{low-drop, low-take, sum-low}
 use Rattle.laws.specs.Splice.{part, part-part}
 use Rattle.rules.specs.Cells.{Low, block, sum}
 use Rattle.rules.specs.Search.{pick}
 use Rattle.rules.specs.SearchLaws.{pick-elim}
 use Rattle.block.specs.Laws.{greatest-low, least-small}
 use Rattle.block.specs.Meaning.{Leads, RunAt, RunFrom, greatestOf, leastOf}
-use Rattle.block.specs.StateLaws.{sum-low}
 
 -- ---- a run
 

@@ -7,7 +7,7 @@ use Prim.Native.Nat.{ℕ, _*_, _≤_, _<_}
 use native.Mathlib.Omega.{arith}
 use lib.ListN.{length, replicate}
 use Rattle.laws.specs.Block.{state-one}
-use Rattle.laws.specs.Lists.{sum-replicate}
+use Rattle.laws.specs.Lists.{sum-low, sum-replicate}
 use Rattle.rules.specs.Block.{empty, full, broken, cycle, stateOf}
 use Rattle.rules.specs.Cells.{Low, sum}
 use Rattle.rules.specs.Search.{pick}
@@ -31,12 +31,7 @@ pub sum-zero : (b : List ℕ) → sum b ≡ 0 → b ≡ replicate (length b) 0
 sum-zero [] e = refl
 sum-zero (x ∷ b) e = ap₂ (λ (y : ℕ) (r : List ℕ). y ∷ r) (omega arith) (sum-zero b (omega arith))
 
--- the sum of cells that are at most L
-pub sum-low : (L : ℕ) (b : List ℕ) → Low L b → sum b ≤ length b * L
-sum-low L [] h = omega arith
-sum-low L (x ∷ b) h = omega (arith, sum-low L b (h .1))
-
--- and where it is as great as can be, all cells are at L
+-- cells that are at most L and whose sum is as great as can be are all at L
 pub sum-full : (L : ℕ) (b : List ℕ) → Low L b → sum b ≡ length b * L → b ≡ replicate (length b) L
 sum-full L [] h e = refl
 sum-full L (x ∷ b) h e =

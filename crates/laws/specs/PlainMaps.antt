@@ -38,13 +38,13 @@ pub record Lawful (k F m : ℕ) (st : ℕ → State) : Type 0 where
   pub apart : (i j j′ : ℕ) → j < m → j′ < m → HasBit i (st j) → HasBit i (st j′) → j ≡ j′
 
 -- an earlier block with the same bit, told by the bit
-same-bit : (i : ℕ) (s t : State) → HasBit i s → HasBit i t → SameBit s t
+pub same-bit : (i : ℕ) (s t : State) → HasBit i s → HasBit i t → SameBit s t
 same-bit i empty t h q = h
 same-bit i full t h q = h
 same-bit i broken t h q = h
 same-bit i (active j v) t h q = subst (λ (x : ℕ). HasBit x t) h q
 
-bit-same : (s t : State) → SameBit s t → (i : ℕ) × HasBit i s × HasBit i t
+pub bit-same : (s t : State) → SameBit s t → (i : ℕ) × HasBit i s × HasBit i t
 bit-same empty t h = absurd h
 bit-same full t h = absurd h
 bit-same broken t h = absurd h
@@ -137,7 +137,7 @@ module _ (F m i : ℕ) (st : ℕ → State) where
   bit-two = value-two (first (λ j. hasBit? i (st j)) m)
 
 -- a block that is active at i and v is i's
-to-bit : {i v : ℕ} {s : State} → s ≡ active i v → HasBit i s
+pub to-bit : {i v : ℕ} {s : State} → s ≡ active i v → HasBit i s
 to-bit {i} e = subst (λ (s : State). HasBit i s) (sym e) refl
 
 -- lawful states have one reading

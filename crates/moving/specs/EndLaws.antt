@@ -7,8 +7,7 @@ use native.Mathlib.Omega.{arith}
 use borrow.Rule.Slice.PartMut.{putMid}
 use lib.ListN.{length, getD, take, drop, replicate, length-append, length-drop, length-replicate, length-take}
 use lib.Seq.{length-take-le}
-use Rattle.block.specs.StateLaws.{sum-low}
-use Rattle.laws.specs.Lists.{low-all, low-drop, low-take, sum-replicate}
+use Rattle.laws.specs.Lists.{low-all, low-drop, low-take, sum-low, sum-replicate}
 use Rattle.laws.specs.Live.{live}
 use Rattle.laws.specs.Splice.{length-spliced, part, part-spliced, past-spliced, spliced, spliced-append, spliced-put, spliced-two, sum-spliced}
 use Rattle.rules.specs.Batches.{entryCells}

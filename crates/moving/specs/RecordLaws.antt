@@ -9,7 +9,7 @@ use native.Mathlib.Omega.{arith}
 use borrow.Rule.Slice.PartMut.{putMid}
 use lib.ListN.{length, drop, length-drop}
 use lib.Seq.{length-take-le}
-use Rattle.block.specs.StateLaws.{sum-low}
+use Rattle.laws.specs.Lists.{sum-low}
 use Rattle.laws.specs.Splice.{length-spliced, part, spliced, spliced-put}
 use Rattle.laws.specs.Stage.{recorded-le}
 use Rattle.rules.specs.Batches.{entryCells}

@@ -1,5 +1,5 @@
 -- Laws of a scan: what one more block adds to what is known, and what a scan says of a reading and of a change. Assumes nothing.
-use mathlib.Core.Bool.{Bool, true, false}
+use mathlib.Core.Bool.{true, false}
 use mathlib.Core.List.{List, [], _∷_, _++_}
 use mathlib.Core.Logic.{_≢_, ⊎-elim}
 use mathlib.Core.Path.{_≡_, _∙_, ap, refl, subst, sym}
@@ -13,8 +13,9 @@ use lib.Seq.{append-snoc, drop-cons, getD-set-other, getD-set-same, getD-take, l
 use Rattle.laws.specs.Block.{Means, cycle-full, cycle-zero, length-cycle, state-means, sum-cycle}
 use Rattle.laws.specs.Cut.{block-fits, length-block, low-block, part-block, store-sum}
 use Rattle.laws.specs.Distinct.{Below, Distinct, pigeon-absent}
-use Rattle.laws.specs.Lists.{length-tabulate, low-drop, low-take, sum-append, tabulate-more, tabulate-same}
+use Rattle.laws.specs.Lists.{length-tabulate, low-drop, low-take, sum-append, tabulate-more}
 use Rattle.laws.specs.Live.{run-keeps}
+use Rattle.laws.specs.PlainMaps.{bit-same, same-bit, to-bit}
 use Rattle.laws.specs.Stage.{absent-at}
 use Rattle.block.specs.Meaning.{RunFrom}
 use Rattle.block.specs.RunLaws.{past-full}
@@ -102,26 +103,6 @@ not-absent b x n seen l h e o =
 -- fewer than k distinct bits were seen where one of the k bits wasn't
 pub seen-few : (k b n : ℕ) (seen : List ℕ) → b < k → n ≤ length seen → Absent b (take n seen) → Distinct (take n seen) → Below k (take n seen) → n < k
 seen-few k b n seen l h o d w = omega (arith, length-take-le n seen h, pigeon-absent k b (take n seen) l o d w)
-
--- ---- two blocks with one bit
-
--- two blocks with bit i have one bit
-same-bit : (i : ℕ) (s t : State) → HasBit i s → HasBit i t → SameBit s t
-same-bit i empty t h q = h
-same-bit i full t h q = h
-same-bit i broken t h q = h
-same-bit i (active j v) t h q = subst (λ (x : ℕ). HasBit x t) h q
-
--- two blocks with one bit have some bit i
-bit-same : (s t : State) → SameBit s t → (i : ℕ) × HasBit i s × HasBit i t
-bit-same empty t h = absurd h
-bit-same full t h = absurd h
-bit-same broken t h = absurd h
-bit-same (active i v) t h = (i, refl, h)
-
--- an active block has its bit
-to-bit : {i v : ℕ} {s : State} → s ≡ active i v → HasBit i s
-to-bit {i} e = subst (λ (s : State). HasBit i s) (sym e) refl
 
 -- ---- what is known of the blocks below j
 
@@ -263,42 +244,6 @@ module _ {k L m : ℕ} {xs : List ℕ} {j e : ℕ} {places weights bits : List �
   scan-repeat r f l b v q o = refused-is k L m xs r f (λ h. known-repeat g b v q o (h .1 j l))
 
 -- ---- no second outcome
-
--- there is one first place
-place-one : {P : ℕ → Type 0} {j m x y : ℕ} → Place P j m x → Place P j m y → x ≡ y
-place-one (some x l h b) (some y l′ h′ b′) =
-    let p : ¬ (x < y) = λ q. b′ x q h in
-    let q : ¬ (y < x) = λ q. b y q h′ in
-    omega arith
-place-one (some x l h b) (none b′) = absurd (b′ x l h)
-place-one (none b) (some y l′ h′ b′) = absurd (b y l′ h′)
-place-one (none b) (none b′) = refl
-
--- a bit has one block and one weight
-held-one : {st : ℕ → State} {i j m p v p′ v′ : ℕ} → Held st i j m p v → Held st i j m p′ v′ → (p ≡ p′) × (v ≡ v′)
-held-one (held x v l e b) (held y w l′ e′ b′) =
-    let p : ¬ (x < y) = λ q. b′ x q (to-bit e) in
-    let q : ¬ (y < x) = λ q. b y q (to-bit e′) in
-    let r : x ≡ y = omega arith in
-    let z : v ≡ w = cc in
-    (r, z)
-held-one (held x v l e b) (free b′) = absurd (b′ x l (to-bit e))
-held-one (free b) (held y w l′ e′ b′) = absurd (b y l′ (to-bit e′))
-held-one (free b) (free b′) = (refl, refl)
-
--- two scans of the same blocks agree: whether they keep the rules, and then the first empty block and each bit's block and weight
-pub scanned-one : (k L m : ℕ) (xs : List ℕ) (r s : Scan) → Scanned k L m xs r → Scanned k L m xs s
-    → (r .sound ≡ s .sound)
-    × (r .sound ≡ true → (r .empty ≡ s .empty) × ((i : ℕ) → i < k → (getD (r .places) i 0 ≡ getD (s .places) i 0) × (getD (r .weights) i 0 ≡ getD (s .weights) i 0)))
-scanned-one k L m xs r s a b =
-    let e : r .sound ≡ s .sound = go (r .sound) (s .sound) refl refl in
-    (e, λ q. (place-one (a .empty q) (b .empty (sym e ∙ q)), λ i l. held-one (a .bits q i l) (b .bits (sym e ∙ q) i l)))
-  where
-    go : (x y : Bool) → r .sound ≡ x → s .sound ≡ y → r .sound ≡ s .sound
-    go true true p q = p ∙ sym q
-    go true false p q = absurd (b .broken q (a .sound p))
-    go false true p q = absurd (a .broken p (b .sound q))
-    go false false p q = p ∙ sym q
 
 -- ---- the state of a block, from its part of the cells
 
@@ -471,10 +416,6 @@ step-raises k L m i j v xs l h q b e =
     )
 
 -- ---- the values of the bits, one by one
-
--- the values of the k bits that a scan gives are their readings
-pub scanned-bits : (k L m : ℕ) (xs : List ℕ) (s : Scan) → Scanned k L m xs s → s .sound ≡ true → parities k (s .weights) ≡ tabulate k (read k L m xs)
-scanned-bits k L m xs s c e = tabulate-same k (λ i. getD (s .weights) i 0 % 2) (read k L m xs) (λ i l. sym (scanned-read k L m i xs s c e l))
 
 -- one more value in the sum
 pub parities-sum : (i : ℕ) (ws : List ℕ) → sum (parities (i + 1) ws) ≡ sum (parities i ws) + getD ws i 0 % 2

@@ -1,5 +1,5 @@
 -- What follows from the scan of a stage: its check, the reading of each bit, the place of a change, and that no second scan fits. Assumes nothing.
-use mathlib.Core.Bool.{Bool, true, false}
+use mathlib.Core.Bool.{true}
 use mathlib.Core.List.{List, [], _∷_, map}
 use mathlib.Core.Path.{_≡_, _∙_, ap, ap₂, refl, subst, sym}
 use Prim.Native.Nat.{ℕ, zero, suc, _-_, _*_, _%_, _≤_, _<_}
@@ -7,7 +7,7 @@ use native.Mathlib.Decide.{ℕ-discrete, decLt}
 use native.Mathlib.Nat.{le-refl}
 use native.Mathlib.Omega.{arith}
 use lib.ListN.{List·getD-map, drop, getD, length, length-drop, length-map, set, take}
-use lib.Seq.{ext-getD, length-take-le}
+use lib.Seq.{length-take-le}
 use Rattle.laws.specs.Chop.{join-chop, length-chop}
 use Rattle.laws.specs.Index.{free-zero, stored-entry}
 use Rattle.laws.specs.Lists.{low-drop, low-take}
@@ -202,44 +202,3 @@ stage-place {len} {count} {w} {k} {L} {cells} {batch} {s} f g t i h =
     at-none (within-none W L i bs es (r .as-many) a b) (omega (arith, r .as-many, names-few k i (indexes es) (r .names) h b a))))
 
 -- ---- no second scan
-
--- a number has one first rank
-first-one : {u : ℕ} {ts : List ℕ} {t x : ℕ} → FirstAt u ts t → FirstAt u ts x → t ≡ x
-first-one {t = t} {x} f g =
-    let a : ¬ (t < x) = λ l. g .earlier t l (f .there) in
-    let b : ¬ (x < t) = λ l. f .earlier x l (g .there) in
-    omega arith
-
--- a number has one block
-home-one : {W none u : ℕ} {bs : List (List ℕ)} {es : List Entry} {p o v p′ o′ v′ : ℕ} → Home W none u bs es p o v → Home W none u bs es p′ o′ v′ → (p ≡ p′) × (o ≡ o′) × (v ≡ v′)
-home-one {W} {bs = bs} {es} (has t f p o v) (has x g p′ o′ v′) =
-    let e : t ≡ x = first-one f g in
-    (p ∙ ap (λ (y : ℕ). liveBlock W y bs) e ∙ sym p′, o ∙ ap (λ (y : ℕ). openEntry y es) e ∙ sym o′, v ∙ ap (λ (y : ℕ). getD (liveWeights W bs) y 0) e ∙ sym v′)
-home-one {u = u} {es = es} (has t f p o v) (hasNot n p′ o′ v′) = absurd (absent-at u t (indexes es) n (f .inside) (sym (f .there)))
-home-one {u = u} {es = es} (hasNot n p o v) (has t f p′ o′ v′) = absurd (absent-at u t (indexes es) n (f .inside) (sym (f .there)))
-home-one (hasNot n p o v) (hasNot n′ p′ o′ v′) = (p ∙ sym p′, o ∙ sym o′, v ∙ sym v′)
-
--- two scans whose parts are equal
-parts-same : (mk : Bool → List ℕ → List ℕ → List ℕ → ℕ → ℕ → ℕ → StageScan) {a a′ : Bool} {b b′ c c′ d d′ : List ℕ} {e e′ f f′ g g′ : ℕ}
-    → a ≡ a′ → b ≡ b′ → c ≡ c′ → d ≡ d′ → e ≡ e′ → f ≡ f′ → g ≡ g′ → mk a b c d e f g ≡ mk a′ b′ c′ d′ e′ f′ g′
-parts-same mk p q r s t u v = cc
-
--- one scan passes given blocks
-passed-one : {k W none : ℕ} {bs : List (List ℕ)} {es : List Entry} {s s′ : StageScan} → Passed k W none bs es s → Passed k W none bs es s′ → s ≡ s′
-passed-one {s = s} {s′} g h =
-    let a : s .sound ≡ s′ .sound = g .sound ∙ sym (h .sound) in
-    let b : s .places ≡ s′ .places = ext-getD 0 (s .places) (s′ .places) (g .of-64 .0 ∙ sym (h .of-64 .0)) (λ i l. home-one (g .homes i (omega (arith, g .of-64 .0))) (h .homes i (omega (arith, g .of-64 .0))) .0) in
-    let c : s .slots ≡ s′ .slots = ext-getD 0 (s .slots) (s′ .slots) (g .of-64 .1 ∙ sym (h .of-64 .1)) (λ i l. home-one (g .homes i (omega (arith, g .of-64 .1))) (h .homes i (omega (arith, g .of-64 .1))) .1) in
-    let d : s .weights ≡ s′ .weights = ext-getD 0 (s .weights) (s′ .weights) (g .of-64 .2 ∙ sym (h .of-64 .2)) (λ i l. home-one (g .homes i (omega (arith, g .of-64 .2))) (h .homes i (omega (arith, g .of-64 .2))) .2) in
-    let e : (s .free ≡ s′ .free) × (s .«free_slot» ≡ s′ .«free_slot») × (s .«free_weight» ≡ s′ .«free_weight») = home-one (g .free) (h .free) in
-    parts-same (λ a b c d e f g. record { sound = a; places = b; slots = c; weights = d; free = e; «free_slot» = f; «free_weight» = g }) a b c d (e .0) (e .1) (e .2)
-
--- a stage has one scan
-pub scan-one : {k W : ℕ} {bs : List (List ℕ)} {es : List Entry} {s s′ : StageScan} → StageScanned k W bs es s → StageScanned k W bs es s′ → s ≡ s′
-scan-one {k} {W} {bs} {es} {s} {s′} g h = by-sound (s .sound) (s′ .sound) refl refl
-  where
-    by-sound : (a b : Bool) → s .sound ≡ a → s′ .sound ≡ b → s ≡ s′
-    by-sound true true p q = passed-one (g .right p) (h .right q)
-    by-sound true false p q = absurd (h .wrong q .0 (stage-ok g p))
-    by-sound false true p q = absurd (g .wrong p .0 (stage-ok h q))
-    by-sound false false p q = g .wrong p .1 ∙ sym (h .wrong q .1)

@@ -1,7 +1,7 @@
 -- Laws of index blocks, of cells filled one by one, of a block as a part of the cells, of the stage and of the later stage. Assumes nothing.
 use mathlib.Core.Bool.{true, false}
 use mathlib.Core.List.{List, [], _++_, _∷_, append-assoc, append-nil}
-use mathlib.Core.Path.{_∙_, _≡_, ap, ap₂, refl, subst, sym}
+use mathlib.Core.Path.{_∙_, _≡_, ap, refl, subst, sym}
 use Prim.Native.Nat.{_%_, _*_, _+_, _-_, _/_, _<_, _^_, _≤_, suc, zero, ℕ}
 use native.Mathlib.Decide.{decLe, decLt}
 use native.Mathlib.Nat.{div-add-mod', div-lt-iff-lt-mul, le-of-suc-le-suc, mod-lt, mul-le-mul-left, not-suc-le-zero, pow-le-pow-right, pow-suc, pow-zero}
@@ -14,6 +14,7 @@ use Rattle.laws.specs.Lists.{low-append, low-replicate, low-take, sum-replicate
 use Rattle.laws.specs.Live.{count-full, run-keeps}
 use Rattle.block.specs.Meaning.{RunFrom}
 use Rattle.block.specs.RunLaws.{past-full}
+use Rattle.block.specs.StateLaws.{sum-zero}
 use Rattle.rules.specs.Batches.{batch, batchCells, digits, entryOf, number}
 use Rattle.rules.specs.Cells.{Low, block, chop, same?, store, sum}
 use Rattle.rules.specs.Search.{Found, at, done, first, nowhere, pick}
@@ -143,11 +144,6 @@ count-past len L from to cells l h f =
 
 -- ---- the stage
 
--- cells whose sum is 0 are all 0
-zero-cells : (b : List ℕ) → sum b ≡ 0 → b ≡ replicate (length b) 0
-zero-cells [] e = refl
-zero-cells (x ∷ b) e = ap₂ (λ (y : ℕ) (r : List ℕ). y ∷ r) (omega arith) (zero-cells b (omega arith))
-
 -- what a look for a cell above 0 tells of the sum
 pub zero-sum : (b : List ℕ) → pick (same? b (replicate (length b) 0)) true false ≡ true → sum b ≡ 0
 zero-sum b =
@@ -163,7 +159,7 @@ some-sum b =
   where
     go : Dec (0 < sum b) → ¬ (b ≡ replicate (length b) 0) → 0 < sum b
     go (yes l) n = l
-    go (no l) n = absurd (n (zero-cells b (omega arith)))
+    go (no l) n = absurd (n (sum-zero b (omega arith)))
 
 -- whoever shows what an answer means has the stage
 pub stage-is : (w n : ℕ) (xs : List ℕ) {f : Found} → First (λ d. 0 < sum (block w xs (n - 1 - d))) n f → f ≡ stageLeft w n xs
@@ -202,10 +198,6 @@ later-from s m L zero xs h = refl
 later-from s m L (suc d) xs h =
     ap (λ (c : ℕ). pick (decLe (2 ^ s) (length (liveWeights (parityLength d * L) (chop (parityLength d) c xs)))) (at d) (laterFrom (2 ^ s) L c d xs)) (count-twice s m d h)
     ∙ ap (λ (r : Found). pick (decLe (2 ^ s) (liveCount s m L d xs)) (at d) r) (later-from s m L d xs (omega arith))
-
--- the later stage of the rules, from a search told by the count
-pub later-rules : (s m L d : ℕ) (xs vs : List ℕ) → d ≤ s - 1 → later s m L d xs vs ≡ moved s m L xs vs (laterFrom (2 ^ s) L (parityCount s m d) d xs)
-later-rules s m L d xs vs h = later-is s m L d xs vs ∙ ap (moved s m L xs vs) (sym (later-from s m L d xs h))
 
 -- ---- the later stage as a search by halves
 
