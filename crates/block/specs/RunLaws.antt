@@ -47,7 +47,7 @@ part-weight L a n s h l =
     rw e at g
 
 -- a run at level 0 weighs nothing, and so does any part of it
-part-nothing : (a n : ℕ) (s : List ℕ) → Low 0 s → sum (take n (drop a s)) ≡ 0
+pub part-nothing : (a n : ℕ) (s : List ℕ) → Low 0 s → sum (take n (drop a s)) ≡ 0
 part-nothing a n s h = omega (arith, sum-low 0 (take n (drop a s)) (low-take 0 n (drop a s) (low-drop 0 a s h)))
 
 -- ---- the front of a run

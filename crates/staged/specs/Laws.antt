@@ -9,16 +9,18 @@ use native.Mathlib.Numerals.{add-one}
 use native.Mathlib.Omega.{arith}
 use lib.ListN.{drop, getD, length, length-append, length-replicate, replicate, set, take}
 use lib.Seq.{drop-drop, drop-length, length-take-le, take-suc}
+use Rattle.laws.specs.Cut.{block-fits}
+use Rattle.laws.specs.Splice.{part, part-part}
 use Rattle.laws.specs.Index.{digits-low, digits-num, length-digits, num-digits, num-full, num-lt, pow-pos′}
 use Rattle.laws.specs.Lists.{low-append, low-replicate, low-take, sum-replicate}
 use Rattle.laws.specs.Live.{count-full, run-keeps}
 use Rattle.block.specs.Meaning.{RunFrom}
-use Rattle.block.specs.RunLaws.{past-full}
+use Rattle.block.specs.RunLaws.{part-nothing, past-full}
 use Rattle.block.specs.StateLaws.{sum-zero}
 use Rattle.rules.specs.Batches.{batch, batchCells, digits, entryOf, number}
 use Rattle.rules.specs.Cells.{Low, block, chop, same?, store, sum}
 use Rattle.rules.specs.Search.{Found, at, done, first, nowhere, pick}
-use Rattle.rules.specs.SearchLaws.{First, first-eq, first-is, first-unique, pick-elim, pick-no, pick-yes}
+use Rattle.rules.specs.SearchLaws.{First, miss, first-eq, first-is, first-unique, pick-elim, pick-no, pick-yes}
 use Rattle.rules.specs.Stage.{closed, index, liveWeights}
 use Rattle.rules.specs.Staged.{later, liveCount, moveTo, parityCount, parityLength}
 use Rattle.staged.specs.Meaning.{laterFrom, laterLeft, moved, stageLeft}
@@ -164,6 +166,17 @@ some-sum b =
 -- whoever shows what an answer means has the stage
 pub stage-is : (w n : ℕ) (xs : List ℕ) {f : Found} → First (λ d. 0 < sum (block w xs (n - 1 - d))) n f → f ≡ stageLeft w n xs
 stage-is w n xs h = sym (first-eq (λ d. decLt 0 (sum (block w xs (n - 1 - d)))) n h)
+
+-- batches that are all 0 are those of stage 0
+pub dark-stage : (w n m : ℕ) (xs : List ℕ) → take (n * w) xs ≡ replicate m 0 → nowhere ≡ stageLeft w n xs
+unfolding block
+dark-stage w n m xs e = stage-is w n xs (miss (λ d l h.
+    let x : ℕ = n - 1 - d in
+    let o : 0 + x * w ≡ x * w = omega arith in
+    let q : part (x * w) w (part 0 (n * w) xs) ≡ part (x * w) w xs = part-part 0 (n * w) (x * w) w xs (block-fits w x n (omega arith)) ∙ ap (λ (a : ℕ). part a w xs) o in
+    let z : sum (part (x * w) w (take (n * w) xs)) ≡ 0 = part-nothing (x * w) w (take (n * w) xs) (subst (Low 0) (sym e) (low-replicate 0 m 0 (omega arith))) in
+    let y : sum (part (x * w) w xs) ≡ 0 = ap sum (sym q) ∙ z in
+    omega arith))
 
 -- it is the stage of the rules, where the cells are those from the first batch on
 pub stage-rules : (s m w : ℕ) (f : List ℕ) → stageLeft (batchCells s w) (s - 1) (drop (m * 2 ^ s) f) ≡ first (λ d. decLt 0 (sum (batch s m w f d))) (s - 1)

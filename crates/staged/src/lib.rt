@@ -105,8 +105,8 @@ pub enum Stage {
     Zero,
 }
 
-// The stage, from the batches: `index` is the cells from the first batch on, of `batches` batches of `batch` cells each.
-pub fn stage_of(index: &[u8], batch: usize, batches: usize) -> Stage
+// The stage, batch by batch from the last one down.
+fn last_batch(index: &[u8], batch: usize, batches: usize) -> Stage
     requires { ⌜ batches * batch ≤ length (now index) ⌝ }
     ensures { λ r. ⌜ asFound r ≡ stageLeft batch batches (now (index .entry)) ⌝ }
 {
@@ -120,6 +120,19 @@ pub fn stage_of(index: &[u8], batch: usize, batches: usize) -> Stage
         left += 1;
     }
     Stage::Zero
+}
+
+// The stage, from the batches: `index` is the cells from the first batch on, of `batches` batches of `batch` cells each.
+// Nearly all changes are made at stage 0, so one look at all batches comes first.
+pub fn stage_of(index: &[u8], batch: usize, batches: usize) -> Stage
+    requires { ⌜ batches * batch ≤ length (now index) ⌝ }
+    ensures { λ r. ⌜ asFound r ≡ stageLeft batch batches (now (index .entry)) ⌝ }
+{
+    let e = batches * batch;
+    if all_zero(&index[..e]) {
+        return Stage::Zero;
+    }
+    last_batch(index, batch, batches)
 }
 
 // A later stage with room, told by how many stages are left there, or nowhere.
