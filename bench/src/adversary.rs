@@ -8,7 +8,7 @@ use second::Settings;
 /// A run against a sheet.
 struct Run {
     settings: Settings,
-    library: Compiled,
+    compiled: Compiled,
     sheet: Vec<u8>,
     accepted: u64,
 }
@@ -29,7 +29,7 @@ enum Outlook {
 pub fn accepted(settings: &Settings) -> u64 {
     let mut run = Run {
         settings: *settings,
-        library: Compiled::accept(settings),
+        compiled: Compiled::accept(settings),
         sheet: vec![0; settings.n],
         accepted: 0,
     };
@@ -47,7 +47,7 @@ pub fn accepted(settings: &Settings) -> u64 {
 impl Run {
     /// Changes a bit, unless that is answered Erase.
     fn change(&mut self, bit: usize) -> bool {
-        let reply = self.library.change(&mut self.sheet, bit);
+        let reply = self.compiled.change(&mut self.sheet, bit);
         assert!(
             matches!(reply.answer, 0 | 7),
             "a change is done or ends the run"
@@ -59,7 +59,7 @@ impl Run {
     /// What bit 0 would do to this sheet.
     fn outlook(&self, sheet: &[u8]) -> Outlook {
         let mut after = sheet.to_vec();
-        if self.library.change(&mut after, 0).answer != 0 {
+        if self.compiled.change(&mut after, 0).answer != 0 {
             return Outlook::Ends;
         }
         if stage(&self.settings, &after) == stage(&self.settings, sheet) {
@@ -80,7 +80,7 @@ impl Run {
         let mut bits: Vec<usize> = (1..self.settings.k).rev().collect();
         while let Some(bit) = bits.pop() {
             let mut tried = self.sheet.clone();
-            let reply = self.library.change(&mut tried, bit);
+            let reply = self.compiled.change(&mut tried, bit);
             let stays = stage(&self.settings, &tried) == stage(&self.settings, &self.sheet);
             let outlook = self.outlook(&tried);
             if reply.answer == 0 && stays && outlook > best {

@@ -79,8 +79,8 @@ impl Job {
                 black_box(bare(black_box(sheet)));
                 true
             }
-            By::Library => self.library(sheet, bit, &mut [0; PLACES]).answer == self.answer,
-            By::Second => self.second(sheet, bit, &mut [0; PLACES]).number() == self.answer as u64,
+            By::Library => self.ours(sheet, bit, &mut [0; PLACES]).answer == self.answer,
+            By::Second => self.theirs(sheet, bit, &mut [0; PLACES]).number() == self.answer as u64,
         }
     }
 
@@ -90,8 +90,8 @@ impl Job {
             let bit = self.bit(turn, self.settings.k);
             let (mut ours, mut theirs) = (self.sheet.clone(), self.sheet.clone());
             let (mut our_bits, mut their_bits) = ([0; PLACES], [0; PLACES]);
-            let reply = self.library(&mut ours, bit, &mut our_bits);
-            let answer = self.second(&mut theirs, bit, &mut their_bits);
+            let reply = self.ours(&mut ours, bit, &mut our_bits);
+            let answer = self.theirs(&mut theirs, bit, &mut their_bits);
             let same =
                 (answer.number(), answer.value()) == (reply.answer as u64, reply.value as u64);
             assert!(
@@ -106,7 +106,7 @@ impl Job {
         }
     }
 
-    fn library(&self, sheet: &mut [u8], bit: usize, output: &mut [u8; PLACES]) -> Reply {
+    fn ours(&self, sheet: &mut [u8], bit: usize, output: &mut [u8; PLACES]) -> Reply {
         let reply = match self.call {
             Call::Erase => self.compiled.erase(sheet),
             Call::Read => self.compiled.read(sheet, output),
@@ -116,7 +116,7 @@ impl Job {
         reply
     }
 
-    fn second(&self, sheet: &mut [u8], bit: usize, output: &mut [u8; PLACES]) -> Answer {
+    fn theirs(&self, sheet: &mut [u8], bit: usize, output: &mut [u8; PLACES]) -> Answer {
         let answer = match self.call {
             Call::Erase => second::erase(&self.settings, sheet),
             Call::Read => second::read(&self.settings, sheet, output),
