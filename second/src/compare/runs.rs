@@ -41,29 +41,20 @@ const SMALL: [Start; 12] = [
 ];
 
 const LIMITS: [Start; 11] = [
-    ([0, 2, 1, 16_384], &[Adversary]),
-    ([0, 2, 255, 40], EVERY),
-    ([0, 63, 2, 4_200], EVERY),
-    ([0, 64, 1, 16_384], &[Adversary]),
-    ([0, 64, 255, 4_096], &[Adversary]),
-    ([1, 4, 1, 16_384], &[AnyBit]),
-    ([1, 4, 255, 100], &[AnyBit]),
-    ([1, 16, 255, 350], &[AnyBit]),
-    ([1, 32, 2, 3_000], EVERY),
-    ([1, 64, 1, 16_384], &[AnyBit]),
-    ([1, 64, 2, 8_100], &[OneBit]),
-];
-
-const LONGEST: [Start; 14] = [
-    ([0, 2, 1, 16_384], &[OneBit, AnyBit]),
+    ([0, 2, 1, 16_384], EVERY),
     ([0, 2, 255, 100], EVERY),
     ([0, 63, 2, 16_384], &[Adversary]),
-    ([0, 64, 1, 16_384], &[OneBit, AnyBit]),
-    ([1, 4, 1, 16_384], &[OneBit, Adversary]),
+    ([0, 64, 1, 16_384], EVERY),
+    ([0, 64, 255, 4_096], &[Adversary]),
+    ([1, 4, 1, 16_384], EVERY),
     ([1, 4, 255, 300], &[AnyBit]),
-    ([1, 16, 255, 350], &[OneBit, Adversary]),
-    ([1, 64, 1, 16_384], &[OneBit, Adversary]),
+    ([1, 16, 255, 350], EVERY),
+    ([1, 32, 2, 3_000], EVERY),
+    ([1, 64, 1, 16_384], EVERY),
     ([1, 64, 2, 8_100], &[AnyBit]),
+];
+
+const LONGEST: [Start; 5] = [
     ([0, 2, 15, 16_384], EVERY),
     ([0, 64, 15, 16_384], EVERY),
     ([0, 64, 255, 4_096], EVERY),
@@ -185,14 +176,14 @@ fn demand_3(settings: &Settings) -> u64 {
     count as u64
 }
 
-/// From built sheets of every stage, a hundred changes or two.
+/// From built sheets of every stage, some hundred changes at most.
 fn from_built(comparison: &mut Comparison, random: &mut Random, asked: [u64; 4]) {
     let settings = Settings::asked(asked);
     for stage in 0..settings.s.max(1) {
         for next in [AnyBit, AnyBit, OneBit] {
             let sheet = accepted(random, &settings, stage);
             let case = Case::on(Call::Change, &settings, &sheet);
-            Run::new(comparison, case, 200, bits(random, settings.k, next));
+            Run::new(comparison, case, 300, bits(random, settings.k, next));
         }
     }
 }
