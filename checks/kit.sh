@@ -50,9 +50,11 @@ link_c() {
 }
 
 # keeping FILE COMMAND..: rt over a view of the kit whose clang also leaves the module that it compiles in FILE
+# A module of an earlier run must not pass for one that this run did not compile.
 keeping() {
     local kept=$PWD/$1 view status=0 part
     shift
+    rm -f "$kept" || return 1
     view=$(mktemp -d)
     chmod 755 "$view"
     mkdir -p "$view/on/$machine"
@@ -64,12 +66,16 @@ keeping() {
     rm "$view/on/$machine/toolchain/bin/clang"
     cat >"$view/on/$machine/toolchain/bin/clang" <<END
 #!/bin/sh
-[ ! -f module.bc ] || cp module.bc "$kept"
+[ ! -f module.bc ] || cp module.bc "$kept" || exit 1
 exec "$tools/bin/clang" "\$@"
 END
     chmod 755 "$view/on/$machine/toolchain/bin/clang"
     RATTLE_HOME=$view quietly "$@" || status=$?
     rm -rf "$view"
+    if [ "$status" -eq 0 ] && [ ! -s "$kept" ]; then
+        echo "keeping: '$*' compiled no module, so there is no $kept" >&2
+        status=1
+    fi
     return "$status"
 }
 

@@ -66,6 +66,14 @@ impl Job {
         }
     }
 
+    /// A reading, with the number of its answer.
+    pub fn reading(settings: &Settings, sheet: Vec<u8>, answer: usize) -> Job {
+        Job {
+            answer,
+            ..Job::new(settings, sheet, Call::Read)
+        }
+    }
+
     /// The bit for this turn, of so many turns.
     pub fn bit(&self, turn: usize, turns: usize) -> usize {
         self.bit.unwrap_or(turn * self.settings.k / turns)

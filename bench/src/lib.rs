@@ -7,6 +7,7 @@ pub mod bits;
 pub mod compiled;
 pub mod count;
 pub mod endurance;
+pub mod forms;
 pub mod job;
 pub mod measured;
 pub mod moves;

@@ -1,4 +1,4 @@
-//! Accepted sheets to measure calls on, with few blocks in use or with many.
+//! Sheets to measure calls on, with few blocks in use or with many.
 
 use crate::places::batch;
 use second::random::Random;
@@ -37,6 +37,13 @@ pub fn sheet(settings: &Settings, stage: usize, blocks: Use) -> Vec<u8> {
     } else {
         fill_parity_blocks(&mut random, settings, stage, &bits, &mut sheet);
     }
+    sheet
+}
+
+/// A sheet at stage 0 with an active block for each of these bits, in this order; it breaks the rules if a bit is named twice.
+pub fn active(settings: &Settings, bits: &[usize]) -> Vec<u8> {
+    let mut sheet = vec![0; settings.n];
+    fill_blocks(&mut Random::new(1), settings, bits, &mut sheet);
     sheet
 }
 

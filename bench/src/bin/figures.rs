@@ -1,6 +1,6 @@
-//! Prints one part of the benchmarks: calls, moves, runs, programs or counts.
+//! Prints one part of the benchmarks: calls, forms, moves, runs, programs or counts.
 
-use bench::{count, moves, programs, rows, runs};
+use bench::{count, forms, moves, programs, rows, runs};
 use std::path::Path;
 use std::process::ExitCode;
 
@@ -9,6 +9,7 @@ fn main() -> ExitCode {
     let words: Vec<&str> = words.iter().map(|word| &**word).collect();
     match words[..] {
         ["calls"] => rows::print(),
+        ["forms"] => forms::print(),
         ["moves"] => moves::print(),
         ["runs"] => runs::print(),
         ["programs", folder, compiled, second] => {
@@ -21,7 +22,7 @@ fn main() -> ExitCode {
         }
         _ => {
             eprintln!(
-                "figures: calls, moves, runs, programs FOLDER COMPILED SECOND, or counts FILE"
+                "figures: calls, forms, moves, runs, programs FOLDER COMPILED SECOND, or counts FILE"
             );
             return ExitCode::FAILURE;
         }

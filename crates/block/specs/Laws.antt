@@ -1,7 +1,7 @@
 -- Laws of sums, of the greatest and the least level, of the first cell above a level, of cells that are all 0, of cells filled one by one, and of the sheet from a block on. Assumes nothing.
 use mathlib.Core.Bool.{true, false}
 use mathlib.Core.List.{List, [], _∷_, _++_, append-nil}
-use mathlib.Core.Path.{_≡_, _∙_, ap, ap₂, refl, subst, sym}
+use mathlib.Core.Path.{_≡_, _∙_, ap, ap₂, refl, sym}
 use Prim.Native.Nat.{ℕ, zero, suc, _+_, _-_, _*_, _≤_, _<_, max, min}
 use native.Mathlib.Decide.{decLt}
 use native.Mathlib.Numerals.{add-one}
@@ -10,10 +10,10 @@ use borrow.Author.Tests.{eq-eqb, ne-eqb}
 use lib.Dec.{eqb}
 use lib.ListN.{length, getD, take, drop, replicate, set, length-drop, drop-of-length-le, replicate-append-replicate}
 use lib.Seq.{take-suc, take-suc-set, take-all, drop-drop}
-use Rattle.laws.specs.Lists.{low-all, low-at, sum-part}
+use Rattle.laws.specs.Lists.{low-at, sum-part}
 use Rattle.rules.specs.Cells.{Low, block, firstAbove, same?, store, sum}
 use Rattle.rules.specs.Search.{Found, nowhere, pick}
-use Rattle.rules.specs.SearchLaws.{First, miss, first-eq, first-is, pick-elim}
+use Rattle.rules.specs.SearchLaws.{First, miss, first-eq, pick-elim}
 use Rattle.block.specs.Meaning.{greatestOf, leastOf}
 
 -- ---- sums
@@ -84,13 +84,6 @@ above-is L s h = sym (first-eq (λ c. decLt L (getD s c 0)) (length s) h)
 -- where no level is above L, no cell is found above L
 pub low-fine : (L : ℕ) (s : List ℕ) → Low L s → firstAbove L s ≡ nowhere
 low-fine L s h = sym (above-is L s (miss (λ c l q. omega (arith, low-at L s h c))))
-
--- and the other way
-pub fine-low : (L : ℕ) (s : List ℕ) → firstAbove L s ≡ nowhere → Low L s
-unfolding firstAbove
-fine-low L s e =
-    let f : First (λ c. L < getD s c 0) (length s) nowhere = subst (First (λ c. L < getD s c 0) (length s)) e (first-is (λ c. decLt L (getD s c 0)) (length s)) in
-    low-all L s (λ c l. let n : ¬ (L < getD s c 0) = none-there f c l in omega arith)
 
 -- ---- cells that are all 0
 

@@ -7,9 +7,6 @@ use lib.ListN.{getD, length, take, drop}
 use Rattle.rules.specs.Block.{State, empty, full, broken, active}
 use Rattle.rules.specs.Cells.{Low, block, sum}
 use Rattle.rules.specs.Search.{Found, at, nowhere, pick}
-use Rattle.rules.specs.declared.Answer.the-variants.{BadLevel}
-use Rattle.rules.specs.declared.Check.{Check}
-use Rattle.rules.specs.declared.Check.the-variants.{Pass, Refuse}
 use Rattle.block.specs.declared.Level.{Level}
 use Rattle.block.specs.declared.Level.the-variants.{Fine, Above}
 use Rattle.block.specs.declared.BlockState.{BlockState}
@@ -42,11 +39,6 @@ RunFrom len v cells from to = (x : ℕ) → from ≤ x → x < to → (len * v �
 abbrev pub asFound : Level → Found
 asFound Fine = nowhere
 asFound (Above c) = at c
-
--- what the check of the levels makes of it
-abbrev pub checkOf : Level → Check
-checkOf Fine = Pass
-checkOf (Above c) = Refuse (BadLevel c)
 
 -- the state that a look at a block found
 abbrev pub asState : BlockState → State

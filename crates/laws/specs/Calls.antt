@@ -1,21 +1,23 @@
 -- What a call's answer tells: which checks passed, and what the maps gave. Assumes nothing.
-use mathlib.Core.Path.{_≡_, refl, sym, ap, _∙_}
-use mathlib.Core.List.{List}
+use mathlib.Core.Path.{_≡_, refl, sym, ap, _∙_, subst}
+use mathlib.Core.List.{List, [], _∷_}
+use mathlib.Core.Logic.{_≢_}
 use Prim.Native.Nat.{ℕ, _-_, _≤_, _<_}
 use native.Mathlib.Decide.{ℕ-discrete, decLe, decLt}
 use native.Mathlib.Omega.{arith}
 use Rattle.laws.specs.Lists.{low-all, low-at}
 use lib.ListN.{length, getD, replicate}
-use Rattle.rules.specs.Search.{Found, at, nowhere, Result, done, noPlace}
+use types.Run.{OneOf, miss as no-key}
+use denote.Enum.Declared.{tagOf}
+use Rattle.rules.proofs.Answer.{the-type}
+use Rattle.rules.specs.Search.{Found, Result, done, noPlace}
 use Rattle.rules.specs.SearchLaws.{pick-yes, pick-no, First, hit, miss, first-is, first-eq}
 use Rattle.rules.specs.Cells.{sum, Low, firstAbove}
 use Rattle.rules.specs.Accept.{Genuine, genuine?, guarantee}
-use Rattle.rules.specs.Calls.{Sound, sound?, changeSheet, ask, andThen, levelCheck, checkShape, checkLength, checkOutput, checkBit, checkLevels, checkSheet, eraseChecks, readChecks, changeChecks, Outcome, erasing, eraseCall, changed, changing, changeCall, reading, readCall}
+use Rattle.rules.specs.Calls.{Check, Pass, Refuse, Sound, sound?, changeSheet, ask, asCheck, andThen, levelCheck, checkShape, checkLength, checkOutput, checkBit, checkLevels, checkSheet, eraseChecks, sheetChecks, readChecks, changeChecks, Outcome, erasing, eraseCall, changed, changing, changeCall, reading, readCall}
 use Rattle.rules.specs.declared.Settings.{Settings}
 use Rattle.rules.specs.declared.Answer.{Answer}
 use Rattle.rules.specs.declared.Answer.the-variants.{Done, BadShape, BadLength, ShortOutput, BadBit, BadLevel, BadSheet, Erase, BadRecord}
-use Rattle.rules.specs.declared.Check.{Check}
-use Rattle.rules.specs.declared.Check.the-variants.{Pass, Refuse}
 
 -- a sheet that every call accepts
 pub record Accepted (r : Settings) (xs : List ℕ) : Type 0 where
@@ -43,7 +45,8 @@ pub data Checked (A : Type 0) : Check → Type 0 where
   passed : A → Checked A Pass
   refused : (a : Answer) → Refusal a → Checked A (Refuse a)
 
-ask-is : {A : Type 0} (d : Dec A) (a : Answer) → Refusal a → Checked A (ask d a)
+-- a test passes where it holds
+pub ask-is : {A : Type 0} (d : Dec A) (a : Answer) → Refusal a → Checked A (ask d a)
 ask-is (yes h) a q = passed h
 ask-is (no h) a q = refused a q
 
@@ -53,7 +56,8 @@ then-is (passed a) (passed b) = passed (a, b)
 then-is (passed a) (refused x q) = refused x q
 then-is (refused x q) h = refused x q
 
-level-is : (L : ℕ) (xs : List ℕ) → Checked (Low L xs) (levelCheck (firstAbove L xs))
+-- and so do levels of which none is above L
+pub level-is : (L : ℕ) (xs : List ℕ) → Checked (Low L xs) (levelCheck (firstAbove L xs))
 unfolding firstAbove
 level-is L xs = go (first-is (λ c. decLt L (getD xs c 0)) (length xs))
   where
@@ -73,15 +77,21 @@ weaker f (refused x q) = refused x q
 pub erase-checks : (r : Settings) (xs : List ℕ) → Checked (Genuine r × (length xs ≡ r .n)) (eraseChecks r xs)
 erase-checks r xs = then-is (ask-is (genuine? r) BadShape tt) (ask-is (ℕ-discrete (length xs) (r .n)) BadLength tt)
 
-pub read-checks : (r : Settings) (xs out : List ℕ) → Checked (Accepted r xs × (r .k ≤ length out)) (readChecks r xs out)
-read-checks r xs out = weaker (λ p. (accepted-from r xs (p .0) (p .1 .0) (p .1 .1 .1 .0) (p .1 .1 .1 .1), p .1 .1 .0))
+pub sheet-checks : {A : Type 0} (r : Settings) (xs : List ℕ) {own : Check} → Checked A own → Checked (Accepted r xs × A) (sheetChecks r xs own)
+sheet-checks r xs h = weaker (λ p. (accepted-from r xs (p .0) (p .1 .0) (p .1 .1 .1 .0) (p .1 .1 .1 .1), p .1 .1 .0))
     (then-is (ask-is (genuine? r) BadShape tt) (then-is (ask-is (ℕ-discrete (length xs) (r .n)) BadLength tt)
-    (then-is (ask-is (decLe (r .k) (length out)) ShortOutput tt) (then-is (level-is (r .top) xs) (ask-is (sound? r xs) BadSheet tt)))))
+    (then-is h (then-is (level-is (r .top) xs) (ask-is (sound? r xs) BadSheet tt)))))
+
+pub read-checks : (r : Settings) (xs out : List ℕ) → Checked (Accepted r xs × (r .k ≤ length out)) (readChecks r xs out)
+read-checks r xs out = sheet-checks r xs (ask-is (decLe (r .k) (length out)) ShortOutput tt)
 
 pub change-checks : (r : Settings) (xs : List ℕ) (i : ℕ) → Checked (Accepted r xs × (i < r .k)) (changeChecks r xs i)
-change-checks r xs i = weaker (λ p. (accepted-from r xs (p .0) (p .1 .0) (p .1 .1 .1 .0) (p .1 .1 .1 .1), p .1 .1 .0))
-    (then-is (ask-is (genuine? r) BadShape tt) (then-is (ask-is (ℕ-discrete (length xs) (r .n)) BadLength tt)
-    (then-is (ask-is (decLt i (r .k)) BadBit tt) (then-is (level-is (r .top) xs) (ask-is (sound? r xs) BadSheet tt)))))
+change-checks r xs i = sheet-checks r xs (ask-is (decLt i (r .k)) BadBit tt)
+
+-- what a check that passed asks for
+pub checked-holds : {A : Type 0} {c : Check} → Checked A c → c ≡ Pass → A
+checked-holds (passed h) e = h
+checked-holds (refused a q) e = absurd (let z : _≡_ {A = ℕ} 0 1 = cc in omega arith)
 
 -- a check answers by whether what it asks for holds
 pub ask-fails : {A : Type 0} (d : Dec A) (a : Answer) → ¬ A → ask d a ≡ Refuse a
@@ -98,7 +108,31 @@ then-ends d e = ap (λ (x : Check). andThen x d) e
 pub then-goes : {c : Check} (d : Check) → c ≡ Pass → andThen c d ≡ d
 then-goes d e = ap (λ (x : Check). andThen x d) e
 
--- checks that all pass, from what they ask for
+-- ---- a check as a call answers it
+
+-- an answer that is told by its tag to be one of the refusals isn't Done
+pub not-done : (a : Answer) → OneOf (1 ∷ 2 ∷ 3 ∷ 4 ∷ 5 ∷ 6 ∷ 7 ∷ 8 ∷ []) (tagOf the-type a) → (v : ℕ) → a ≢ Done v
+not-done a o v e = no-key (1 ∷ 2 ∷ 3 ∷ 4 ∷ 5 ∷ 6 ∷ 7 ∷ 8 ∷ []) 0 tt (subst (λ (x : Answer). OneOf (1 ∷ 2 ∷ 3 ∷ 4 ∷ 5 ∷ 6 ∷ 7 ∷ 8 ∷ []) (tagOf the-type x)) e o)
+
+-- an answer that isn't Done is its own refusal
+pub refusal-told : (a : Answer) → ((v : ℕ) → a ≢ Done v) → asCheck a ≡ Refuse a
+refusal-told (Done v) n = absurd (n v refl)
+refusal-told BadShape n = refl
+refusal-told BadLength n = refl
+refusal-told ShortOutput n = refl
+refusal-told BadBit n = refl
+refusal-told (BadLevel c) n = refl
+refusal-told BadSheet n = refl
+refusal-told Erase n = refl
+refusal-told BadRecord n = refl
+
+-- a check that refuses ends the call there
+pub ends-there : (a : Answer) {c : Check} (d : Check) → asCheck a ≡ c → ((v : ℕ) → a ≢ Done v) → asCheck a ≡ andThen c d
+ends-there a d e n = refusal-told a n ∙ sym (then-ends d (sym e ∙ refusal-told a n))
+
+-- ---- checks that all pass
+
+-- from what they ask for
 then-passes : {c d : Check} → c ≡ Pass → d ≡ Pass → andThen c d ≡ Pass
 then-passes {c} {d} p q = ap (λ (x : Check). andThen x d) p ∙ q
 
@@ -107,97 +141,63 @@ pub level-passes : (L : ℕ) (xs : List ℕ) → Low L xs → levelCheck (firstA
 unfolding firstAbove
 level-passes L xs h = ap levelCheck (first-eq (λ c. decLt L (getD xs c 0)) (length xs) (miss (λ c l q. let z : getD xs c 0 ≤ L = low-at L xs h c in omega arith)))
 
-pub change-passes : (r : Settings) (xs : List ℕ) (i : ℕ) → Accepted r xs → i < r .k → changeChecks r xs i ≡ Pass
-change-passes r xs i a l =
+-- every check of a call on an accepted sheet passes if its own does
+pub sheet-passes : (r : Settings) (xs : List ℕ) {own : Check} → Accepted r xs → own ≡ Pass → sheetChecks r xs own ≡ Pass
+sheet-passes r xs a h =
     then-passes (ask-passes (genuine? r) BadShape (a .genuine)) (then-passes (ask-passes (ℕ-discrete (length xs) (r .n)) BadLength (a .long))
-    (then-passes (ask-passes (decLt i (r .k)) BadBit l) (then-passes (level-passes (r .top) xs (a .low)) (ask-passes (sound? r xs) BadSheet (a .sound)))))
+    (then-passes h (then-passes (level-passes (r .top) xs (a .low)) (ask-passes (sound? r xs) BadSheet (a .sound)))))
+
+pub change-passes : (r : Settings) (xs : List ℕ) (i : ℕ) → Accepted r xs → i < r .k → changeChecks r xs i ≡ Pass
+change-passes r xs i a l = sheet-passes r xs a (ask-passes (decLt i (r .k)) BadBit l)
 
 pub read-passes : (r : Settings) (xs out : List ℕ) → Accepted r xs → r .k ≤ length out → readChecks r xs out ≡ Pass
-read-passes r xs out a l =
-    then-passes (ask-passes (genuine? r) BadShape (a .genuine)) (then-passes (ask-passes (ℕ-discrete (length xs) (r .n)) BadLength (a .long))
-    (then-passes (ask-passes (decLe (r .k) (length out)) ShortOutput l) (then-passes (level-passes (r .top) xs (a .low)) (ask-passes (sound? r xs) BadSheet (a .sound)))))
+read-passes r xs out a l = sheet-passes r xs a (ask-passes (decLe (r .k) (length out)) ShortOutput l)
 
 pub erase-passes : (r : Settings) (xs : List ℕ) → Genuine r → length xs ≡ r .n → eraseChecks r xs ≡ Pass
 erase-passes r xs g e = then-passes (ask-passes (genuine? r) BadShape g) (ask-passes (ℕ-discrete (length xs) (r .n)) BadLength e)
 
 -- ---- checks 1 and 2 first, and then the rest
 
--- checks may be grouped
-then-group : (a b c : Check) → andThen (andThen a b) c ≡ andThen a (andThen b c)
-then-group Pass b c = refl
-then-group (Refuse x) b c = refl
+-- what is left of a call on a sheet once checks 1 and 2 have passed
+abbrev pub restChecks : Settings → List ℕ → Check → Check
+restChecks r xs own = andThen own (andThen (checkLevels r xs) (checkSheet r xs))
 
--- what is left of a change, and of a reading, once checks 1 and 2 have passed
-abbrev pub changeRest : Settings → List ℕ → ℕ → Check
-changeRest r xs i = andThen (checkBit r i) (andThen (checkLevels r xs) (checkSheet r xs))
-
-abbrev pub readRest : Settings → List ℕ → List ℕ → Check
-readRest r xs out = andThen (checkOutput r out) (andThen (checkLevels r xs) (checkSheet r xs))
+-- checks 1 and 2 may be grouped before the rest
+sheet-first : (r : Settings) (xs : List ℕ) (own : Check) {c : Check} → eraseChecks r xs ≡ c → sheetChecks r xs own ≡ andThen c (restChecks r xs own)
+sheet-first r xs own e = go (checkShape r) (checkLength r xs) (restChecks r xs own) ∙ ap (λ (x : Check). andThen x (restChecks r xs own)) e
+  where
+    go : (a b c : Check) → andThen a (andThen b c) ≡ andThen (andThen a b) c
+    go Pass b c = refl
+    go (Refuse x) b c = refl
 
 -- and so each call goes by what they answer
 pub erase-first : (r : Settings) (xs : List ℕ) {c : Check} → eraseChecks r xs ≡ c → eraseCall r xs ≡ erasing r xs c
 unfolding eraseCall
 erase-first r xs e = ap (erasing r xs) e
 
-pub change-first : (r : Settings) (xs : List ℕ) (i : ℕ) {c : Check} → eraseChecks r xs ≡ c → changeCall r xs i ≡ changing r xs i (andThen c (changeRest r xs i))
+pub change-first : (r : Settings) (xs : List ℕ) (i : ℕ) {c : Check} → eraseChecks r xs ≡ c → changeCall r xs i ≡ changing r xs i (andThen c (restChecks r xs (checkBit r i)))
 unfolding changeCall
-change-first r xs i {c} e = ap (changing r xs i) (sym (then-group (checkShape r) (checkLength r xs) (changeRest r xs i)) ∙ ap (λ (x : Check). andThen x (changeRest r xs i)) e)
+change-first r xs i e = ap (changing r xs i) (sheet-first r xs (checkBit r i) e)
 
-pub read-first : (r : Settings) (xs out : List ℕ) {c : Check} → eraseChecks r xs ≡ c → readCall r xs out ≡ reading r xs out (andThen c (readRest r xs out))
+pub read-first : (r : Settings) (xs out : List ℕ) {c : Check} → eraseChecks r xs ≡ c → readCall r xs out ≡ reading r xs out (andThen c (restChecks r xs (checkOutput r out)))
 unfolding readCall
-read-first r xs out {c} e = ap (reading r xs out) (sym (then-group (checkShape r) (checkLength r xs) (readRest r xs out)) ∙ ap (λ (x : Check). andThen x (readRest r xs out)) e)
+read-first r xs out e = ap (reading r xs out) (sheet-first r xs (checkOutput r out) e)
 
--- where checks 1 and 2 pass, the record is genuine and the sheet has n cells
-pub size-passed : (r : Settings) (xs : List ℕ) → eraseChecks r xs ≡ Pass → Genuine r × (length xs ≡ r .n)
-size-passed r xs e = go (erase-checks r xs) e
-  where
-    go : {c : Check} → Checked (Genuine r × (length xs ≡ r .n)) c → c ≡ Pass → Genuine r × (length xs ≡ r .n)
-    go (passed p) e = p
-    go (refused a q) e = absurd (let z : _≡_ {A = ℕ} 0 1 = cc in omega arith)
+-- ---- checks in two steps
 
--- ---- each refusal after checks 1 and 2, in number order
+-- checks 1 to 5 may be grouped before check 6
+pub then-group : (a b c d e : Check) → andThen a (andThen b (andThen c (andThen d e))) ≡ andThen (andThen (andThen a b) (andThen c d)) e
+then-group Pass Pass Pass d e = refl
+then-group Pass Pass (Refuse x) d e = refl
+then-group Pass (Refuse x) c d e = refl
+then-group (Refuse x) b c d e = refl
 
-module _ (r : Settings) (xs out : List ℕ) (p : eraseChecks r xs ≡ Pass) where
-  rest-read : {c : Check} → readRest r xs out ≡ c → readCall r xs out ≡ reading r xs out c
-  rest-read e = read-first r xs out p ∙ ap (reading r xs out) e
+-- two checks that pass
+pub then-both : (c d : Check) → andThen c d ≡ Pass → (c ≡ Pass) × (d ≡ Pass)
+then-both Pass d e = (refl, e)
+then-both (Refuse x) d e = absurd (let z : _≡_ {A = ℕ} 0 1 = cc in omega arith)
 
-  -- too few places
-  pub read-short : ¬ (r .k ≤ length out) → readCall r xs out ≡ record { answer = ShortOutput; places = out }
-  read-short h = rest-read (then-ends _ (ask-fails (decLe (r .k) (length out)) ShortOutput h))
-
-  module _ (l : r .k ≤ length out) where
-    pub read-level : (c : ℕ) → firstAbove (r .top) xs ≡ at c → readCall r xs out ≡ record { answer = BadLevel c; places = out }
-    read-level c e = rest-read (then-goes _ (ask-passes (decLe (r .k) (length out)) ShortOutput l) ∙ then-ends _ (ap levelCheck e))
-
-    -- the sheet rules broken
-    pub read-broken : firstAbove (r .top) xs ≡ nowhere → ¬ (Sound r xs) → readCall r xs out ≡ record { answer = BadSheet; places = out }
-    read-broken e h = rest-read (then-goes _ (ask-passes (decLe (r .k) (length out)) ShortOutput l) ∙ then-goes _ (ap levelCheck e) ∙ ask-fails (sound? r xs) BadSheet h)
-
-    -- every check passed
-    pub read-sound : firstAbove (r .top) xs ≡ nowhere → Sound r xs → readCall r xs out ≡ reading r xs out Pass
-    read-sound e h = rest-read (then-goes _ (ask-passes (decLe (r .k) (length out)) ShortOutput l) ∙ then-goes _ (ap levelCheck e) ∙ ask-passes (sound? r xs) BadSheet h)
-
-module _ (r : Settings) (xs : List ℕ) (i : ℕ) (p : eraseChecks r xs ≡ Pass) where
-  rest-change : {c : Check} → changeRest r xs i ≡ c → changeCall r xs i ≡ changing r xs i c
-  rest-change e = change-first r xs i p ∙ ap (changing r xs i) e
-
-  -- no such bit
-  pub change-bit : ¬ (i < r .k) → changeCall r xs i ≡ record { answer = BadBit; sheet = xs }
-  change-bit h = rest-change (then-ends _ (ask-fails (decLt i (r .k)) BadBit h))
-
-  module _ (l : i < r .k) where
-    pub change-level : (c : ℕ) → firstAbove (r .top) xs ≡ at c → changeCall r xs i ≡ record { answer = BadLevel c; sheet = xs }
-    change-level c e = rest-change (then-goes _ (ask-passes (decLt i (r .k)) BadBit l) ∙ then-ends _ (ap levelCheck e))
-
-    -- with levels in order, what is left is check 6 and the maps
-    pub change-sheet : firstAbove (r .top) xs ≡ nowhere → changeCall r xs i ≡ changing r xs i (checkSheet r xs)
-    change-sheet e = rest-change (then-goes _ (ask-passes (decLt i (r .k)) BadBit l) ∙ then-goes _ (ap levelCheck e))
-
--- check 6, and then the maps
-pub sheet-broken : (r : Settings) (xs : List ℕ) (i : ℕ) → ¬ (Sound r xs) → changing r xs i (checkSheet r xs) ≡ record { answer = BadSheet; sheet = xs }
-sheet-broken r xs i h = ap (changing r xs i) (ask-fails (sound? r xs) BadSheet h)
-
--- and on a sheet that keeps them, a change is what the encoding map makes
+-- on a sheet that keeps the rules, a change is what the encoding map makes
 pub sheet-maps : (r : Settings) (xs : List ℕ) (i : ℕ) {q : Result (List ℕ)} → Sound r xs → changeSheet r xs i ≡ q → changing r xs i (checkSheet r xs) ≡ changed xs q
 sheet-maps r xs i h e = ap (changing r xs i) (ask-passes (sound? r xs) BadSheet h) ∙ ap (changed xs) e
 

@@ -14,9 +14,8 @@ use Rattle.rules.specs.Batches.{decode, write, indexCells}
 use Rattle.rules.specs.Batches as B
 use Rattle.rules.specs.Accept.{Genuine}
 use Rattle.rules.specs.AcceptLaws.{PlainFacts, StagedFacts, genuine-facts, staged-inside}
-use Rattle.rules.specs.Calls.{readBit, changeAt, changeSheet, Outcome, changed, changing, changeCall}
+use Rattle.rules.specs.Calls.{Check, readBit, changeAt, changeSheet, Outcome, changed, changing, changeCall}
 use Rattle.rules.specs.Answer.{numberOf, valueOf}
-use Rattle.rules.specs.declared.Check.{Check}
 use Rattle.rules.specs.declared.Settings.{Settings}
 use Rattle.rules.specs.declared.Answer.the-variants.{Done, Erase}
 use Rattle.laws.specs.Kinds.{plain-sound, sound-plain, plain-read, plain-change, staged-sound, sound-staged, staged-read, staged-change}

@@ -5,7 +5,7 @@ use mathlib.Core.List.{List}
 use Prim.Native.Nat.{ℕ}
 use Rattle.rules.specs.Search.{pick}
 use Rattle.rules.specs.Answer.{numberOf, valueOf}
-use Rattle.rules.specs.Accept.{accept, genuine?, promised, batchStart}
+use Rattle.rules.specs.Accept.{accept, genuine?, promised, blockCount, widthOf, batchStart}
 use Rattle.rules.specs.Calls.{Outcome, Reading}
 use Rattle.rules.specs.Promises.{outcome, readOut, SettingsPromise, ErasePromise, ChangePromise, ReadPromise}
 use Rattle.rules.specs.declared.Settings.{Settings}
@@ -69,11 +69,11 @@ pub guarantee-one : (r : Settings) (a b : ℕ) → a ≡ promised r → b ≡ pr
 guarantee-one r a b p q = one-outcome p q
 
 -- the number of blocks
-pub blocks-one : (r : Settings) (a b : ℕ) → a ≡ r .m → b ≡ r .m → a ≡ b
+pub blocks-one : (r : Settings) (a b : ℕ) → a ≡ blockCount r → b ≡ blockCount r → a ≡ b
 blocks-one r a b p q = one-outcome p q
 
 -- the width of an index block
-pub width-one : (r : Settings) (a b : ℕ) → a ≡ r .w → b ≡ r .w → a ≡ b
+pub width-one : (r : Settings) (a b : ℕ) → a ≡ widthOf r → b ≡ widthOf r → a ≡ b
 width-one r a b p q = one-outcome p q
 
 -- where a batch starts

@@ -15,17 +15,15 @@ use Rattle.rules.specs.Batches.{indexCells, decode}
 use Rattle.rules.specs.Accept.{stagesOf, indexWidth, refused, accept, Genuine, genuine?, guarantee}
 use Rattle.rules.specs.StagesLaws.{stages-bits}
 use Rattle.rules.specs.AcceptLaws.{PlainRules, StagedRules, Ruled, kept, broken, plain-ruled, staged-ruled}
-use Rattle.rules.specs.Calls.{Sound, sound?, readAt, readBit, bitsOf, changeSheet, ask, andThen, levelCheck, checkLength, checkLevels, checkSheet, eraseChecks, readChecks, changeChecks, settingsCall, Outcome, erasing, eraseCall, changed, changing, changeCall, Reading, reading, readCall}
+use Rattle.rules.specs.Calls.{Check, Pass, Refuse, Sound, sound?, readAt, readBit, bitsOf, changeSheet, ask, andThen, levelCheck, checkBit, checkLength, checkLevels, checkOutput, checkSheet, eraseChecks, readChecks, changeChecks, settingsCall, Outcome, erasing, eraseCall, changed, changing, changeCall, Reading, reading, readCall}
 use Rattle.rules.specs.Answer.{numberOf, valueOf}
 use Rattle.rules.specs.Promises.{outcome, readOut}
 use Rattle.rules.specs.declared.Settings.{Settings}
 use Rattle.rules.specs.declared.Answer.{Answer}
 use Rattle.rules.specs.declared.Answer.the-variants.{Done, BadShape, BadLength, ShortOutput, BadBit, BadLevel, BadSheet, Erase}
-use Rattle.rules.specs.declared.Check.{Check}
-use Rattle.rules.specs.declared.Check.the-variants.{Pass, Refuse}
 use Rattle.laws.specs.Lists.{getD-past, getD-tabulate, length-tabulate, low-all}
 use Rattle.laws.specs.PlainSheet as P
-use Rattle.laws.specs.Calls.{Accepted, ask-fails, ask-passes, then-ends, then-goes, level-passes, read-passes, erase-passes, changeRest, readRest, erase-first, change-first, read-first}
+use Rattle.laws.specs.Calls.{Accepted, ask-fails, ask-passes, then-ends, then-goes, level-passes, read-passes, erase-passes, restChecks, erase-first, change-first, read-first}
 use Rattle.lifetime.specs.Change.{erase-answered, done-answered}
 use Rattle.lifetime.specs.Staged.{read-two}
 use Rattle.rules.specs.Staged.{readCells}
@@ -193,20 +191,20 @@ module _ (r : Settings) (xs out : List ℕ) where
       room g e (yes l) = level g e l (first-is (λ c. decLt (r .top) (getD xs c 0)) (length xs))
       room g e (no h) = read-output g e h
 
-      size : Genuine r → (d : Dec (length xs ≡ r .n)) → ReadAnswer r xs out (readAnswer (andThen (ask d BadLength) (readRest r xs out)))
+      size : Genuine r → (d : Dec (length xs ≡ r .n)) → ReadAnswer r xs out (readAnswer (andThen (ask d BadLength) (restChecks r xs (checkOutput r out))))
       size g (yes e) = room g e (decLe (r .k) (length out))
       size g (no h) = read-length g h
 
-      shape : (d : Dec (Genuine r)) → ReadAnswer r xs out (readAnswer (andThen (ask d BadShape) (andThen (checkLength r xs) (readRest r xs out))))
+      shape : (d : Dec (Genuine r)) → ReadAnswer r xs out (readAnswer (andThen (ask d BadShape) (andThen (checkLength r xs) (restChecks r xs (checkOutput r out)))))
       shape (yes g) = size g (ℕ-discrete (length xs) (r .n))
       shape (no h) = read-shape h
 
   -- where checks 1 and 2 pass a reading goes by the rest
-  read-rest : {c : Check} → Genuine r → length xs ≡ r .n → readRest r xs out ≡ c → readCall r xs out ≡ reading r xs out c
+  read-rest : {c : Check} → Genuine r → length xs ≡ r .n → restChecks r xs (checkOutput r out) ≡ c → readCall r xs out ≡ reading r xs out c
   read-rest g e q = read-first r xs out (erase-passes r xs g e) ∙ ap (reading r xs out) q
 
   -- check 3 passes
-  output-goes : {c : Check} → r .k ≤ length out → lastChecks r xs ≡ c → readRest r xs out ≡ c
+  output-goes : {c : Check} → r .k ≤ length out → lastChecks r xs ≡ c → restChecks r xs (checkOutput r out) ≡ c
   output-goes l q = then-goes (lastChecks r xs) (ask-passes (decLe (r .k) (length out)) ShortOutput l) ∙ q
 
   -- demand 2 for a reading: on an accepted sheet with k places lent, the bits and how many are 1
@@ -255,20 +253,20 @@ module _ (r : Settings) (xs : List ℕ) (i : ℕ) where
       named g e (yes l) = level g e l (first-is (λ c. decLt (r .top) (getD xs c 0)) (length xs))
       named g e (no h) = change-bit g e h
 
-      size : Genuine r → (d : Dec (length xs ≡ r .n)) → ChangeAnswer r xs i (changeAnswer (andThen (ask d BadLength) (changeRest r xs i)))
+      size : Genuine r → (d : Dec (length xs ≡ r .n)) → ChangeAnswer r xs i (changeAnswer (andThen (ask d BadLength) (restChecks r xs (checkBit r i))))
       size g (yes e) = named g e (decLt i (r .k))
       size g (no h) = change-length g h
 
-      shape : (d : Dec (Genuine r)) → ChangeAnswer r xs i (changeAnswer (andThen (ask d BadShape) (andThen (checkLength r xs) (changeRest r xs i))))
+      shape : (d : Dec (Genuine r)) → ChangeAnswer r xs i (changeAnswer (andThen (ask d BadShape) (andThen (checkLength r xs) (restChecks r xs (checkBit r i)))))
       shape (yes g) = size g (ℕ-discrete (length xs) (r .n))
       shape (no h) = change-shape h
 
   -- where checks 1 and 2 pass a change goes by the rest
-  change-rest : {c : Check} → Genuine r → length xs ≡ r .n → changeRest r xs i ≡ c → changeCall r xs i ≡ changing r xs i c
+  change-rest : {c : Check} → Genuine r → length xs ≡ r .n → restChecks r xs (checkBit r i) ≡ c → changeCall r xs i ≡ changing r xs i c
   change-rest g e q = change-first r xs i (erase-passes r xs g e) ∙ ap (changing r xs i) q
 
   -- check 4 passes
-  bit-goes : {c : Check} → i < r .k → lastChecks r xs ≡ c → changeRest r xs i ≡ c
+  bit-goes : {c : Check} → i < r .k → lastChecks r xs ≡ c → restChecks r xs (checkBit r i) ≡ c
   bit-goes l q = then-goes (lastChecks r xs) (ask-passes (decLt i (r .k)) BadBit l) ∙ q
 
   -- the one listed is its answer

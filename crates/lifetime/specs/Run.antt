@@ -10,9 +10,7 @@ use Rattle.rules.specs.Cells.{sum}
 use Rattle.rules.specs.Accept.{Genuine, guarantee}
 use Rattle.rules.specs.AcceptLaws.{PlainFacts, StagedFacts, genuine-facts, genuine-plain}
 use Rattle.rules.specs.GuaranteeLaws.{guarantee-plain, guarantee-staged}
-use Rattle.rules.specs.Calls.{changeSheet, Outcome, eraseChecks, erasing, eraseCall, changeCall}
-use Rattle.rules.specs.declared.Check.{Check}
-use Rattle.rules.specs.declared.Check.the-variants.{Pass}
+use Rattle.rules.specs.Calls.{Check, Pass, changeSheet, Outcome, eraseChecks, erasing, eraseCall, changeCall}
 use Rattle.rules.specs.declared.Settings.{Settings}
 use Rattle.rules.specs.declared.Answer.{Answer}
 use Rattle.rules.specs.declared.Answer.the-variants.{Done, BadShape, BadLength, ShortOutput, BadBit, BadLevel, BadSheet, Erase, BadRecord}

@@ -1,9 +1,8 @@
 -- Laws of a scan: what one more block adds to what is known, and what a scan says of a reading and of a change. Assumes nothing.
-use mathlib.Core.Bool.{true, false}
 use mathlib.Core.List.{List, [], _∷_, _++_}
 use mathlib.Core.Logic.{_≢_, ⊎-elim}
 use mathlib.Core.Path.{_≡_, _∙_, ap, refl, subst, sym}
-use Prim.Native.Nat.{ℕ, suc, _+_, _-_, _*_, _%_, _≤_, _<_}
+use Prim.Native.Nat.{ℕ, zero, suc, _+_, _-_, _*_, _%_, _≤_, _<_}
 use native.Mathlib.Decide.{ℕ-discrete, decLt}
 use native.Mathlib.Nat.{eq-or-lt-of-le, le-of-suc-le-suc, le-refl, mul-pos, not-suc-le-zero}
 use native.Mathlib.Numerals.{add-one}
@@ -12,7 +11,7 @@ use lib.ListN.{length, getD, getD-replicate, take, drop, replicate, set}
 use lib.Seq.{append-snoc, drop-cons, getD-set-other, getD-set-same, getD-take, length-take-le, set-at, take-suc}
 use Rattle.laws.specs.Block.{Means, cycle-full, cycle-zero, length-cycle, state-means, sum-cycle}
 use Rattle.laws.specs.Cut.{block-fits, length-block, low-block, part-block, store-sum}
-use Rattle.laws.specs.Distinct.{Below, Distinct, pigeon-absent}
+use Rattle.laws.specs.Distinct.{Below, Distinct, pigeon}
 use Rattle.laws.specs.Lists.{length-tabulate, low-drop, low-take, sum-append, tabulate-more}
 use Rattle.laws.specs.Live.{run-keeps}
 use Rattle.laws.specs.PlainMaps.{bit-same, same-bit, to-bit}
@@ -22,12 +21,15 @@ use Rattle.block.specs.RunLaws.{past-full}
 use Rattle.block.specs.StateLaws.{state-empty, state-full}
 use Rattle.rules.specs.Block.{State, active, broken, cellsOf, cycle, empty, full, grown, next, stateOf}
 use Rattle.rules.specs.Cells.{Low, block, store, sum, tabulate}
-use Rattle.rules.specs.Plain.{AllOnCycle, BlocksOk, HasBit, IsEmpty, NoRepeat, OnCycle, SameBit, bitOf, carryOut, change, hasBit?, isEmpty?, plan, planFrom, read, states, valueAt, weight}
+use Rattle.rules.specs.Plain.{AllOnCycle, BlocksOk, HasBit, IsEmpty, NoRepeat, OnCycle, bitOf, blocksOk?, carryOut, change, hasBit?, isEmpty?, plan, planFrom, read, states, valueAt, weight}
 use Rattle.rules.specs.Search.{at, done, first, noPlace, nowhere, pick}
 use Rattle.rules.specs.SearchLaws.{First, first-eq, hit, miss, pick-elim, pick-no, pick-yes}
 use Rattle.rules.specs.Stage.{Absent}
-use Rattle.plain.specs.Meaning.{Free, Held, Place, PlaceOf, Scanned, erase, free, held, none, parities, placeIn, some, step}
-use Rattle.plain.specs.declared.Scan.{Scan}
+use Rattle.rules.specs.Calls.{Pass, Refuse, asCheck}
+use Rattle.rules.specs.declared.Answer.{Answer}
+use Rattle.rules.specs.declared.Answer.the-variants.{BadSheet, Done}
+use Rattle.rules.specs.declared.Look.{Look}
+use Rattle.plain.specs.Meaning.{Free, Held, Place, PlaceOf, Scanned, differing, distinct?, erase, free, held, lookOf, none, parities, placeIn, some, step}
 use Rattle.plain.specs.declared.Found.the-variants.{At, Nowhere}
 
 -- ---- one more place
@@ -41,25 +43,22 @@ place-skip : {P : ℕ → Type 0} {j m e : ℕ} → Place P j m e → ¬ (P j) �
 place-skip (some x l h b) n = some x (omega arith) h b
 place-skip (none b) n = none (all-more b n)
 
--- a first place that was found stays
-place-kept : {P : ℕ → Type 0} {j m e : ℕ} → Place P j m e → e < m → Place P (suc j) m e
-place-kept (some x l h b) q = some x (omega arith) h b
-place-kept (none b) q = absurd (omega arith)
-
--- where none was found and the next is one, it is the first
-place-new : {P : ℕ → Type 0} {j m e : ℕ} → Place P j m e → j < m → ¬ (e < m) → P j → Place P (suc j) m j
-place-new (some x l h b) q n p = absurd (n (omega arith))
-place-new {j = j} (none b) q n p = some j (le-refl (suc j)) p b
+-- where the next is one, the first place is the one found before, if any, or else the next
+place-next : {P : ℕ → Type 0} {j m e : ℕ} → Place P j m e → j < m → P j → Place P (suc j) m (pick (decLt e m) e j)
+place-next {P} {j} {m} (some x l h b) q p =
+    subst (Place P (suc j) m) (sym (pick-yes (decLt x m) x j (omega arith))) (some x (omega arith) h b)
+place-next {P} {j} {m} (none b) q p =
+    let n : ¬ (m < m) = λ h. omega arith in
+    subst (Place P (suc j) m) (sym (pick-no (decLt m m) m j n)) (some j (le-refl (suc j)) p b)
 
 -- a bit's block and weight stay where the next block has another bit or none
 held-skip : {st : ℕ → State} {i j m p v : ℕ} → ¬ (HasBit i (st j)) → Held st i j m p v → Held st i (suc j) m p v
 held-skip n (held x v l e b) = held x v (omega arith) e b
 held-skip n (free b) = free (all-more b n)
 
--- a bit with no place is in no block
-held-free : {st : ℕ → State} {i j m p v : ℕ} → Held st i j m p v → ¬ (p < m) → j ≤ m → Free st j i
-held-free (held x v l e b) n h = absurd (n (omega arith))
-held-free (free b) n h = b
+-- the first empty block found is one of the m blocks
+pub first-below : (e j m : ℕ) → j < m → pick (decLt e m) e j < m
+first-below e j m l = pick-elim (λ x. x < m) (decLt e m) e j (λ h. h) (λ h. l)
 
 -- ---- a list with one more number
 
@@ -83,32 +82,54 @@ distinct-snoc : (b : ℕ) (xs : List ℕ) → Distinct xs → Absent b xs → Di
 distinct-snoc b [] d o = (tt, tt)
 distinct-snoc b (x ∷ xs) d o = (absent-snoc x b xs (d .0) (λ e. o .0 (sym e)), distinct-snoc b xs (d .1) (o .1))
 
+-- where no number of the longer list stands twice, none of its front does, and its last number is not there
+distinct-front : (b : ℕ) (xs : List ℕ) → Distinct (xs ++ (b ∷ [])) → Distinct xs × Absent b xs
+distinct-front b [] d = (tt, tt)
+distinct-front b (x ∷ xs) d =
+    let r = distinct-front b xs (d .1) in
+    ((absent-front x b xs (d .0), r .0), (λ e. absent-last x b xs (d .0) (sym e), r .1))
+
+-- where no number stands twice, two places hold different numbers
+distinct-at : (i j : ℕ) (xs : List ℕ) → i < j → j < length xs → Distinct xs → getD xs i 0 ≢ getD xs j 0
+distinct-at i zero xs l h d = absurd (not-suc-le-zero l)
+distinct-at i (suc j) [] l h d = absurd (not-suc-le-zero h)
+distinct-at zero (suc j) (x ∷ xs) l h d = absent-at x j xs (d .0) (le-of-suc-le-suc h)
+distinct-at (suc i) (suc j) (x ∷ xs) l h d = distinct-at i j xs (le-of-suc-le-suc l) (le-of-suc-le-suc h) (d .1)
+
 -- one more number below k
 below-snoc : (k b : ℕ) (xs : List ℕ) → Below k xs → b < k → Below k (xs ++ (b ∷ []))
 below-snoc k b [] h l = (l, tt)
 below-snoc k b (x ∷ xs) h l = (h .0, below-snoc k b xs (h .1) l)
 
--- what the search for a repeat knows: one more number seen isn't b
-pub absent-more : (b x : ℕ) (seen : List ℕ) → x < length seen → Absent b (take x seen) → ¬ (getD seen x 0 ≡ b) → Absent b (take (x + 1) seen)
-absent-more b x seen l o d =
-    subst (λ (n : ℕ). Absent b (take n seen)) (sym (add-one x))
-    (subst (Absent b) (sym (take-suc seen x 0 l)) (absent-snoc b (getD seen x 0) (take x seen) o (λ e. d (sym e))))
+-- ---- the search for a repeat
 
--- one of the numbers seen is b
-pub not-absent : (b x n : ℕ) (seen : List ℕ) → x < n → n ≤ length seen → getD seen x 0 ≡ b → ¬ (Absent b (take n seen))
-not-absent b x n seen l h e o =
-    let q : x < length (take n seen) = omega (arith, length-take-le n seen h) in
-    absent-at b x (take n seen) o q (sym (getD-take n seen x 0 l ∙ e))
+-- one more number that isn't b
+pub absent-more : (b x : ℕ) (bits : List ℕ) → x < length bits → Absent b (take x bits) → ¬ (getD bits x 0 ≡ b) → Absent b (take (x + 1) bits)
+absent-more b x bits l o d =
+    subst (λ (n : ℕ). Absent b (take n bits)) (sym (add-one x))
+    (subst (Absent b) (sym (take-suc bits x 0 l)) (absent-snoc b (getD bits x 0) (take x bits) o (λ e. d (sym e))))
 
--- fewer than k distinct bits were seen where one of the k bits wasn't
-pub seen-few : (k b n : ℕ) (seen : List ℕ) → b < k → n ≤ length seen → Absent b (take n seen) → Distinct (take n seen) → Below k (take n seen) → n < k
-seen-few k b n seen l h o d w = omega (arith, length-take-le n seen h, pigeon-absent k b (take n seen) l o d w)
+-- one more number that no earlier one equals
+pub distinct-more : (x : ℕ) (bits : List ℕ) → x < length bits → Distinct (take x bits) → Absent (getD bits x 0) (take x bits) → Distinct (take (x + 1) bits)
+distinct-more x bits l d o =
+    subst (λ (n : ℕ). Distinct (take n bits)) (sym (add-one x))
+    (subst Distinct (sym (take-suc bits x 0 l)) (distinct-snoc (getD bits x 0) (take x bits) d o))
+
+-- the answer where no number stands twice
+pub differing-done : (bits : List ℕ) → Distinct bits → Done 0 ≡ differing bits
+differing-done bits d = sym (pick-yes (distinct? bits) (Done 0) BadSheet d)
+
+-- and where one does
+pub differing-not : (i j n : ℕ) (bits : List ℕ) → i < j → j < n → n ≤ length bits → getD bits i 0 ≡ getD bits j 0 → BadSheet ≡ differing (take n bits)
+differing-not i j n bits l h g e =
+    let q : j < length (take n bits) = omega (arith, length-take-le n bits g) in
+    let p : i < n = omega arith in
+    sym (pick-no (distinct? (take n bits)) (Done 0) BadSheet (λ d. distinct-at i j (take n bits) l q d (getD-take n bits i 0 p ∙ e ∙ sym (getD-take n bits j 0 h))))
 
 -- ---- what is known of the blocks below j
 
--- the bits of the active blocks below j, each once
+-- the bits of the active blocks below j
 pub record Seen (k : ℕ) (st : ℕ → State) (j : ℕ) (bits : List ℕ) : Type 0 where
-  pub distinct : Distinct bits
   pub below : Below k bits
   pub told : (i : ℕ) → Absent i bits → Free st j i
   pub free : (i : ℕ) → Free st j i → Absent i bits
@@ -122,7 +143,7 @@ pub record Known (k m : ℕ) (st : ℕ → State) (j e : ℕ) (places weights bi
   pub seen : Seen k st j bits
 
 -- nothing below 0
-pub known-none : (k m : ℕ) (st : ℕ → State) → k ≤ 64 → Known k m st 0 m (replicate 64 m) (replicate 64 0) []
+known-none : (k m : ℕ) (st : ℕ → State) → k ≤ 64 → Known k m st 0 m (replicate 64 m) (replicate 64 0) []
 known-none k m st h = record {
   cycles = λ j l. absurd (not-suc-le-zero l);
   apart = λ j l. absurd (not-suc-le-zero l);
@@ -131,7 +152,7 @@ known-none k m st h = record {
       let q : i < 64 = omega arith in
       subst (λ (p : ℕ). Held st i 0 m p (getD (replicate 64 0) i 0)) (sym (getD-replicate 64 i m 0 q))
       (subst (λ (v : ℕ). Held st i 0 m m v) (sym (getD-replicate 64 i 0 0 q)) (free (λ y z. absurd (not-suc-le-zero z))));
-  seen = record { distinct = tt; below = tt; told = λ i o y l. absurd (not-suc-le-zero l); free = λ i f. tt };
+  seen = record { below = tt; told = λ i o y l. absurd (not-suc-le-zero l); free = λ i f. tt };
 }
 
 module _ {k m : ℕ} {st : ℕ → State} {j e : ℕ} {places weights bits : List ℕ} (g : Known k m st j e places weights bits) where
@@ -143,7 +164,6 @@ module _ {k m : ℕ} {st : ℕ → State} {j e : ℕ} {places weights bits : Lis
     first = p;
     held = λ i l. held-skip (n i) (g .held i l);
     seen = record {
-      distinct = g .seen .distinct;
       below = g .seen .below;
       told = λ i a. all-more (g .seen .told i a) (n i);
       free = λ i f. g .seen .free i (λ y l. f y (omega arith));
@@ -155,22 +175,10 @@ module _ {k m : ℕ} {st : ℕ → State} {j e : ℕ} {places weights bits : Lis
   known-full q = subst (λ (x : ℕ). Known k m st x e places weights bits) (sym (add-one j))
       (known-idle e (subst OnCycle (sym q) tt) (λ i h. subst (HasBit i) q h) (place-skip (g .first) (λ h. subst IsEmpty q h)))
 
-  -- an empty block after the first one
-  pub known-empty : st j ≡ empty → e < m → Known k m st (j + 1) e places weights bits
-  known-empty q l = subst (λ (x : ℕ). Known k m st x e places weights bits) (sym (add-one j))
-      (known-idle e (subst OnCycle (sym q) tt) (λ i h. subst (HasBit i) q h) (place-kept (g .first) l))
-
-  -- the first empty block
-  pub known-first : st j ≡ empty → ¬ (e < m) → j < m → Known k m st (j + 1) j places weights bits
-  known-first q n l = subst (λ (x : ℕ). Known k m st x j places weights bits) (sym (add-one j))
-      (known-idle j (subst OnCycle (sym q) tt) (λ i h. subst (HasBit i) q h) (place-new (g .first) l n (subst IsEmpty (sym q) tt)))
-
-  -- a bit that has no block yet is none of those seen, so the search for it begins past them all
-  pub search-begun : (b n x : ℕ) (seen : List ℕ) → b < k → j ≤ m → bits ≡ take n seen → x ≡ pick (decLt (getD places b 0) m) 0 n → (x ≤ n) × Absent b (take x seen)
-  search-begun b n x seen l h t e =
-      subst (λ (y : ℕ). (y ≤ n) × Absent b (take y seen)) (sym e)
-      (pick-elim (λ y. (y ≤ n) × Absent b (take y seen)) (decLt (getD places b 0) m) 0 n
-      (λ p. (omega arith, tt)) (λ p. (omega arith, subst (Absent b) t (g .seen .free b (held-free (g .held b l) p h)))))
+  -- an empty block
+  pub known-empty : st j ≡ empty → j < m → Known k m st (j + 1) (pick (decLt e m) e j) places weights bits
+  known-empty q l = subst (λ (x : ℕ). Known k m st x (pick (decLt e m) e j) places weights bits) (sym (add-one j))
+      (known-idle (pick (decLt e m) e j) (subst OnCycle (sym q) tt) (λ i h. subst (HasBit i) q h) (place-next (g .first) l (subst IsEmpty (sym q) tt)))
 
   module _ (b v : ℕ) (q : st j ≡ active b v) where
     -- each bit's block and weight, with block j
@@ -189,14 +197,13 @@ module _ {k m : ℕ} {st : ℕ → State} {j e : ℕ} {places weights bits : Lis
     -- the bits seen, with that of block j
     seen-more : b < k → Absent b bits → Seen k st (suc j) (bits ++ (b ∷ []))
     seen-more l o = record {
-      distinct = distinct-snoc b bits (g .seen .distinct) o;
       below = below-snoc k b bits (g .seen .below) l;
       told = λ i a. all-more (g .seen .told i (absent-front i b bits a)) (λ h. absent-last i b bits a (subst (HasBit i) q h));
       free = λ i f. absent-snoc i b bits (g .seen .free i (λ y z. f y (omega arith))) (λ c. f j (le-refl (suc j)) (subst (HasBit i) (sym q) c));
     }
 
     -- an active block whose bit no earlier one holds
-    pub known-active : b < k → b < length places → b < length weights → Absent b bits
+    known-active : b < k → b < length places → b < length weights → Absent b bits
         → Known k m st (j + 1) e (set places b j) (set weights b v) (bits ++ (b ∷ []))
     known-active l lp lw o = subst (λ (x : ℕ). Known k m st x e (set places b j) (set weights b v) (bits ++ (b ∷ []))) (sym (add-one j)) record {
       cycles = all-more (g .cycles) (subst OnCycle (sym q) tt);
@@ -208,42 +215,90 @@ module _ {k m : ℕ} {st : ℕ → State} {j e : ℕ} {places weights bits : Lis
       seen = seen-more l o;
     }
 
-    -- an active block whose bit an earlier one holds
-    known-repeat : ¬ (Absent b bits) → ¬ ((x : ℕ) → x < j → ¬ (SameBit (st x) (st j)))
-    known-repeat o a = o (g .seen .free b (λ y l h. a y l (same-bit b (st y) (st j) h (to-bit q))))
+-- ---- what is known where the bits noted differ
+
+-- the bits of the active blocks below j: where they differ all is known of those blocks, and they differ where no two of the m blocks have one bit
+pub record Noted (k m : ℕ) (st : ℕ → State) (j e : ℕ) (places weights bits : List ℕ) : Type 0 where
+  pub known : Distinct bits → Known k m st j e places weights bits
+  pub differ : NoRepeat m st → Distinct bits
+
+-- nothing below 0
+pub noted-none : (k m : ℕ) (st : ℕ → State) → k ≤ 64 → Noted k m st 0 m (replicate 64 m) (replicate 64 0) []
+noted-none k m st h = record { known = λ d. known-none k m st h; differ = λ a. tt }
+
+module _ {k m : ℕ} {st : ℕ → State} {j e : ℕ} {places weights bits : List ℕ} (g : Noted k m st j e places weights bits) where
+  -- blocks with no bit
+  pub noted-on : {x y : ℕ} → (Known k m st j e places weights bits → Known k m st x y places weights bits) → Noted k m st x y places weights bits
+  noted-on f = record { known = λ d. f (g .known d); differ = g .differ }
+
+  -- an active block
+  pub noted-active : (b v : ℕ) → st j ≡ active b v → j < m → b < k → b < length places → b < length weights
+      → Noted k m st (j + 1) e (set places b j) (set weights b v) (bits ++ (b ∷ []))
+  noted-active b v q h l lp lw = record {
+    known = λ d. let r = distinct-front b bits d in known-active (g .known (r .0)) b v q l lp lw (r .1);
+    differ = λ a.
+        let d = g .differ a in
+        distinct-snoc b bits d (g .known d .seen .free b (λ y z c. a j h y z (same-bit b (st y) (st j) c (to-bit q))));
+  }
 
 -- ---- what a scan says
 
--- true is not false
-true-false : {A : Type 0} → true ≡ false → A
-true-false e = let z : _≡_ {A = ℕ} 0 1 = cc in absurd (omega arith)
-
--- a scan that refuses blocks that break the rules says what it should
-refused-is : (k L m : ℕ) (xs : List ℕ) (r : Scan) → r .sound ≡ false → ¬ (BlocksOk k L m xs) → Scanned k L m xs r
+-- a look that refuses blocks that break the rules
+refused-is : (k L m : ℕ) (xs : List ℕ) (r : Look) → r .answer ≡ BadSheet → ¬ (BlocksOk k L m xs) → Scanned k L m xs r
 refused-is k L m xs r f n = record {
-  sound = λ q. true-false (sym q ∙ f);
-  broken = λ q. n;
-  empty = λ q. true-false (sym q ∙ f);
-  bits = λ q. true-false (sym q ∙ f);
+  answer = f ∙ sym (pick-no (blocksOk? k L m xs) (Done 0) BadSheet n);
+  first = λ q. absurd (n q);
+  bits = λ q. absurd (n q);
 }
 
-module _ {k L m : ℕ} {xs : List ℕ} {j e : ℕ} {places weights bits : List ℕ} (g : Known k m (states k L xs) j e places weights bits) where
-  -- all blocks keep the rules
-  pub scan-sound : ¬ (j < m) → j ≤ m → Scanned k L m xs record { sound = true; empty = e; places = places; weights = weights }
-  scan-sound n l =
+-- a block is on no cycle
+pub scan-broken : (k L m j : ℕ) (xs : List ℕ) (r : Look) → r .answer ≡ BadSheet → j < m → states k L xs j ≡ broken → Scanned k L m xs r
+scan-broken k L m j xs r f l q = refused-is k L m xs r f (λ h. subst OnCycle q (h .0 j l))
+
+module _ (k L m n : ℕ) (xs bits : List ℕ) {j e : ℕ} {places weights : List ℕ} (g : Noted k m (states k L xs) j e places weights (take n bits)) where
+  -- bits that differ are at most k, so every block was looked at
+  scan-sound : n ≤ length bits → ((j < m) → (n ≤ k) → ⊥) → j ≤ m → Distinct (take n bits) → Known k m (states k L xs) m e places weights (take n bits)
+  scan-sound h s l d =
+      let few : n ≤ k = omega (arith, length-take-le n bits h, pigeon k (take n bits) d (g .known d .seen .below)) in
+      let o : ¬ (j < m) = λ q. s q few in
       let q : j ≡ m = omega arith in
-      let h : Known k m (states k L xs) m e places weights bits = subst (λ (x : ℕ). Known k m (states k L xs) x e places weights bits) q g in
-      record { sound = λ r. (h .cycles, h .apart); broken = λ r. true-false r; empty = λ r. h .first; bits = λ r. h .held }
+      subst (λ (x : ℕ). Known k m (states k L xs) x e places weights (take n bits)) q (g .known d)
 
-  -- a block is on no cycle
-  pub scan-broken : (r : Scan) → r .sound ≡ false → j < m → states k L xs j ≡ broken → Scanned k L m xs r
-  scan-broken r f l q = refused-is k L m xs r f (λ h. subst OnCycle q (h .0 j l))
+  -- the search for a repeat decides
+  pub scan-decided : n ≤ length bits → ((j < m) → (n ≤ k) → ⊥) → j ≤ m → Scanned k L m xs (lookOf (differing (take n bits)) places weights e)
+  scan-decided h s l =
+      pick-elim (λ a. Scanned k L m xs (lookOf a places weights e)) (distinct? (take n bits)) (Done 0) BadSheet
+      (λ d.
+      let q = scan-sound h s l d in
+      record {
+        answer = sym (pick-yes (blocksOk? k L m xs) (Done 0) BadSheet (q .cycles, q .apart));
+        first = λ r. q .first;
+        bits = λ r. q .held;
+      })
+      (λ d. refused-is k L m xs (lookOf BadSheet places weights e) refl (λ b. d (g .differ (b .1))))
 
-  -- a block repeats the bit of an earlier one
-  pub scan-repeat : (r : Scan) → r .sound ≡ false → j < m → (b v : ℕ) → states k L xs j ≡ active b v → ¬ (Absent b bits) → Scanned k L m xs r
-  scan-repeat r f l b v q o = refused-is k L m xs r f (λ h. known-repeat g b v q o (h .1 j l))
+-- ---- what its answer tells
 
--- ---- no second outcome
+-- a refusal does not pass
+refuse-pass : {a : Answer} {A : Type 0} → Refuse a ≡ Pass → A
+refuse-pass e = let z : _≡_ {A = ℕ} 0 1 = cc in absurd (omega arith)
+
+module _ {k L m : ℕ} {xs : List ℕ} {r : Look} (h : Scanned k L m xs r) where
+  -- an answer that passes is Done, of stage 0, and the blocks keep the rules
+  pub scanned-sound : asCheck (r .answer) ≡ Pass → BlocksOk k L m xs × (r .answer ≡ Done 0)
+  scanned-sound t =
+      pick-elim (λ a. r .answer ≡ a → BlocksOk k L m xs × (r .answer ≡ Done 0)) (blocksOk? k L m xs) (Done 0) BadSheet
+      (λ b e. (b, e)) (λ n e. refuse-pass (sym (ap asCheck e) ∙ t)) (h .answer)
+
+  -- any other answer is BadSheet, and they break the rules
+  pub scanned-broken : r .answer ≢ Done 0 → ¬ (BlocksOk k L m xs) × (r .answer ≡ BadSheet)
+  scanned-broken t =
+      pick-elim (λ a. r .answer ≡ a → ¬ (BlocksOk k L m xs) × (r .answer ≡ BadSheet)) (blocksOk? k L m xs) (Done 0) BadSheet
+      (λ b e. absurd (t e)) (λ n e. (n, e)) (h .answer)
+
+  -- so it is with an answer that refuses
+  pub scanned-refused : {a : Answer} → asCheck (r .answer) ≡ Refuse a → ¬ (BlocksOk k L m xs) × (r .answer ≡ BadSheet)
+  scanned-refused t = scanned-broken (λ e. refuse-pass (sym t ∙ ap asCheck e))
 
 -- ---- the state of a block, from its part of the cells
 
@@ -288,7 +343,9 @@ module _ (k L m : ℕ) (xs : List ℕ) (two : 2 ≤ k) (g : 0 < L) (fits : m * k
     pub known-past-empty : e < m → RunFrom k 0 xs j r → Known k m (states k L xs) r e places weights bits
     known-past-empty l f =
         run-keeps (λ y. Known k m (states k L xs) y e places weights bits) j r a
-        (λ y c d o. known-empty o (light-state y (omega arith) (f y c d .1 refl)) l) h
+        (λ y c d o.
+        subst (λ (x : ℕ). Known k m (states k L xs) (y + 1) x places weights bits) (pick-yes (decLt e m) e y l)
+        (known-empty o (light-state y (omega arith) (f y c d .1 refl)) (omega arith))) h
 
 -- ---- a block as a part lent on
 
@@ -379,28 +436,28 @@ read-is k L m i xs (held x v l q f) =
 read-is k L m i xs (free f) = let st = states k L xs in ap (valueAt (k * L) st) (first-eq (λ y. hasBit? i (st y)) m (miss f))
 
 -- the place that a scan gives: the bit's block
-pub place-own : (s : Scan) (i m : ℕ) → getD (s .places) i 0 < m → placeIn s i m ≡ At (getD (s .places) i 0) (getD (s .weights) i 0)
-place-own s i m h = pick-yes (decLt (getD (s .places) i 0) m) (At (getD (s .places) i 0) (getD (s .weights) i 0)) (pick (decLt (s .empty) m) (At (s .empty) 0) Nowhere) h
+pub place-own : (s : Look) (i m : ℕ) → getD (s .places) i 0 < m → placeIn s i m ≡ At (getD (s .places) i 0) (getD (s .weights) i 0)
+place-own s i m h = pick-yes (decLt (getD (s .places) i 0) m) (At (getD (s .places) i 0) (getD (s .weights) i 0)) (pick (decLt (s .free) m) (At (s .free) 0) Nowhere) h
 
 -- the bit has no block: the first empty one
-pub place-empty : (s : Scan) (i m : ℕ) → ¬ (getD (s .places) i 0 < m) → s .empty < m → placeIn s i m ≡ At (s .empty) 0
+pub place-empty : (s : Look) (i m : ℕ) → ¬ (getD (s .places) i 0 < m) → s .free < m → placeIn s i m ≡ At (s .free) 0
 place-empty s i m n h =
-    pick-no (decLt (getD (s .places) i 0) m) (At (getD (s .places) i 0) (getD (s .weights) i 0)) (pick (decLt (s .empty) m) (At (s .empty) 0) Nowhere) n
-    ∙ pick-yes (decLt (s .empty) m) (At (s .empty) 0) Nowhere h
+    pick-no (decLt (getD (s .places) i 0) m) (At (getD (s .places) i 0) (getD (s .weights) i 0)) (pick (decLt (s .free) m) (At (s .free) 0) Nowhere) n
+    ∙ pick-yes (decLt (s .free) m) (At (s .free) 0) Nowhere h
 
 -- and there is no empty one: none
-pub place-none : (s : Scan) (i m : ℕ) → ¬ (getD (s .places) i 0 < m) → ¬ (s .empty < m) → placeIn s i m ≡ Nowhere
+pub place-none : (s : Look) (i m : ℕ) → ¬ (getD (s .places) i 0 < m) → ¬ (s .free < m) → placeIn s i m ≡ Nowhere
 place-none s i m n h =
-    pick-no (decLt (getD (s .places) i 0) m) (At (getD (s .places) i 0) (getD (s .weights) i 0)) (pick (decLt (s .empty) m) (At (s .empty) 0) Nowhere) n
-    ∙ pick-no (decLt (s .empty) m) (At (s .empty) 0) Nowhere h
+    pick-no (decLt (getD (s .places) i 0) m) (At (getD (s .places) i 0) (getD (s .weights) i 0)) (pick (decLt (s .free) m) (At (s .free) 0) Nowhere) n
+    ∙ pick-no (decLt (s .free) m) (At (s .free) 0) Nowhere h
 
 -- the place that a scan gives is the place of the change
-pub scanned-place : (k L m i : ℕ) (xs : List ℕ) (s : Scan) → 2 ≤ k → 1 ≤ L → m * k ≤ length xs → i < k → Scanned k L m xs s → s .sound ≡ true → PlaceOf k L m i xs (placeIn s i m)
-scanned-place k L m i xs s h g l b c e = place-is k L m i xs (omega arith) g b (c .bits e i b) (c .empty e)
+pub scanned-place : (k L m i : ℕ) (xs : List ℕ) (s : Look) → 2 ≤ k → 1 ≤ L → m * k ≤ length xs → i < k → Scanned k L m xs s → asCheck (s .answer) ≡ Pass → PlaceOf k L m i xs (placeIn s i m)
+scanned-place k L m i xs s h g l b c e = place-is k L m i xs (omega arith) g b (c .bits (scanned-sound c e .0) i b) (c .first (scanned-sound c e .0))
 
 -- the parity of the weight that a scan gives is the reading
-pub scanned-read : (k L m i : ℕ) (xs : List ℕ) (s : Scan) → Scanned k L m xs s → s .sound ≡ true → i < k → read k L m xs i ≡ getD (s .weights) i 0 % 2
-scanned-read k L m i xs s c e b = read-is k L m i xs (c .bits e i b)
+pub scanned-read : (k L m i : ℕ) (xs : List ℕ) (s : Look) → Scanned k L m xs s → asCheck (s .answer) ≡ Pass → i < k → read k L m xs i ≡ getD (s .weights) i 0 % 2
+scanned-read k L m i xs s c e b = read-is k L m i xs (c .bits (scanned-sound c e .0) i b)
 
 -- one step raises one level
 pub step-raises : (k L m i j v : ℕ) (xs : List ℕ) → j < m → m * k ≤ length xs → v < k * L → i < k → block k xs j ≡ cycle k L i v

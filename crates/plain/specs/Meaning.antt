@@ -1,15 +1,18 @@
 -- What a scan of the blocks finds, in terms of their states. Assumes nothing.
 use mathlib.Core.Path.{_≡_}
-use mathlib.Core.Bool.{true, false}
-use mathlib.Core.List.{List}
+use mathlib.Core.List.{List, [], _∷_}
 use Prim.Native.Nat.{ℕ, _+_, _*_, _%_, _<_}
 use native.Mathlib.Decide.{decLt}
-use lib.ListN.{getD}
-use Rattle.rules.specs.Search.{pick, done, noPlace}
+use lib.ListN.{getD, replicate}
+use Rattle.laws.specs.Distinct.{Distinct}
+use Rattle.rules.specs.Search.{both?, pick, done, noPlace}
 use Rattle.rules.specs.Cells.{tabulate, block, store}
 use Rattle.rules.specs.Block.{State, active, cycle}
-use Rattle.rules.specs.Plain.{HasBit, IsEmpty, BlocksOk, states, change}
-use Rattle.plain.specs.declared.Scan.{Scan}
+use Rattle.rules.specs.Plain.{HasBit, IsEmpty, BlocksOk, blocksOk?, states, change}
+use Rattle.rules.specs.Stage.{absent?}
+use Rattle.rules.specs.declared.Answer.{Answer}
+use Rattle.rules.specs.declared.Answer.the-variants.{BadSheet, Done}
+use Rattle.rules.specs.declared.Look.{Look}
 use Rattle.plain.specs.declared.Found.{Found}
 use Rattle.plain.specs.declared.Found.the-variants.{At, Nowhere}
 
@@ -27,18 +30,31 @@ pub data Held (st : ℕ → State) (i j m : ℕ) : ℕ → ℕ → Type 0 where
   held : (x v : ℕ) → x < j → st x ≡ active i v → Free st x i → Held st i j m x v
   free : Free st j i → Held st i j m m 0
 
--- what a scan says of the m blocks: whether they keep the rules, and then the first empty block and every bit's block and weight
-pub record Scanned (k L m : ℕ) (xs : List ℕ) (r : Scan) : Type 0 where
-  pub sound : r .sound ≡ true → BlocksOk k L m xs
-  pub broken : r .sound ≡ false → ¬ (BlocksOk k L m xs)
-  pub empty : r .sound ≡ true → Place (λ j. IsEmpty (states k L xs j)) m m (r .empty)
-  pub bits : r .sound ≡ true → (i : ℕ) → i < k → Held (states k L xs) i m m (getD (r .places) i 0) (getD (r .weights) i 0)
+-- whether no number stands twice
+unfoldable pub distinct? : (xs : List ℕ) → Dec (Distinct xs)
+distinct? [] = yes tt
+distinct? (x ∷ xs) = both? (absent? x xs) (distinct? xs)
+
+-- what the search for a repeat answers: Done where no bit stands twice, else BadSheet
+abbrev pub differing : List ℕ → Answer
+differing bits = pick (distinct? bits) (Done 0) BadSheet
+
+-- the look of stage 0 with this answer, these blocks and weights of the bits, and this first empty block
+abbrev pub lookOf : Answer → List ℕ → List ℕ → ℕ → Look
+lookOf answer places weights e =
+    record { answer = answer; batch = 0; places = places; slots = replicate 64 0; weights = weights; free = e; «free_slot» = 0; «free_weight» = 0 }
+
+-- what a scan says of the m blocks: Done, of stage 0, where they keep the rules, else BadSheet; and where they do, the first empty block and every bit's block and weight
+pub record Scanned (k L m : ℕ) (xs : List ℕ) (r : Look) : Type 0 where
+  pub answer : r .answer ≡ pick (blocksOk? k L m xs) (Done 0) BadSheet
+  pub first : BlocksOk k L m xs → Place (λ j. IsEmpty (states k L xs j)) m m (r .free)
+  pub bits : BlocksOk k L m xs → (i : ℕ) → i < k → Held (states k L xs) i m m (getD (r .places) i 0) (getD (r .weights) i 0)
 
 -- the place that a scan gives for a change of bit i: its block, or else the first empty one
-abbrev pub placeIn : Scan → ℕ → ℕ → Found
+abbrev pub placeIn : Look → ℕ → ℕ → Found
 placeIn s i m =
     pick (decLt (getD (s .places) i 0) m) (At (getD (s .places) i 0) (getD (s .weights) i 0))
-    (pick (decLt (s .empty) m) (At (s .empty) 0) Nowhere)
+    (pick (decLt (s .free) m) (At (s .free) 0) Nowhere)
 
 -- the place of a change of bit i: a block with the weight that it has on the bit's cycle, or none
 pub data PlaceOf (k L m i : ℕ) (xs : List ℕ) : Found → Type 0 where

@@ -2,23 +2,19 @@
 use block::BlockState;
 use block::past_run;
 use block::run_blocks;
-ghost use mathlib.Core.Bool.{false};
+use rules::Answer;
+use rules::Look;
 ghost use mathlib.Core.Path.{_≡_};
 ghost use Prim.Native.Nat.{_+_, _*_, _≤_, _<_};
 ghost use native.Mathlib.Decide.{decLt};
 ghost use mathlib.Core.List.{_++_};
-ghost use lib.ListN.{length, drop};
+ghost use lib.ListN.{length, take, drop};
 ghost use Rattle.rules.specs.Cells.{Low, sum};
+ghost use Rattle.rules.specs.Plain.{states};
 ghost use Rattle.rules.specs.Search.{pick};
-ghost use Rattle.plain.specs.Meaning.{Scanned, placeIn, parities};
-
-// What a scan finds: whether the blocks keep the rules; the first empty block, or m; each bit's block, or m, and its weight.
-pub struct Scan {
-    pub sound: bool,
-    pub empty: usize,
-    pub places: [usize; 64],
-    pub weights: [usize; 64],
-}
+ghost use Rattle.rules.specs.declared.Answer.the-variants.{BadSheet};
+ghost use Rattle.block.specs.Meaning.{asState};
+ghost use Rattle.plain.specs.Meaning.{Scanned, differing, lookOf, placeIn, parities};
 
 // The place of a change: a block and the weight that it has on the bit's cycle, or none.
 pub enum Found {
@@ -26,81 +22,110 @@ pub enum Found {
     Nowhere,
 }
 
-// What a scan answers where the blocks break the rules.
-fn refused() -> Scan
-    ensures { λ r. ⌜ r .sound ≡ false ⌝ }
+// The look at the blocks, of stage 0: the first empty block, or m; each bit's block, or m, and its weight.
+fn look_of(answer: Answer, places: [usize; 64], weights: [usize; 64], free: usize) -> Look
+    ensures { λ r. ⌜ r ≡ lookOf answer places weights free ⌝ }
 {
-    Scan {
-        sound: false,
-        empty: 0,
-        places: [0; 64],
-        weights: [0; 64],
+    Look {
+        answer,
+        batch: 0,
+        places,
+        slots: [0; 64],
+        weights,
+        free,
+        free_slot: 0,
+        free_weight: 0,
     }
 }
 
-// Where the search among the n active blocks for an earlier one of a bit begins: past them all if the bit has no block yet.
-fn search_from(place: usize, m: usize, n: usize) -> usize
-    ensures { λ r. ⌜ r ≡ pick (decLt place m) 0 n ⌝ }
+// The look where the blocks break the rules.
+fn refused() -> Look
+    ensures { λ r. ⌜ r .answer ≡ BadSheet ⌝ }
 {
-    if place < m { 0 } else { n }
+    look_of(Answer::BadSheet, [0; 64], [0; 64], 0)
 }
 
-// One pass over the blocks, runs of full and of empty ones at a stride, left at the first broken block or at the first active block whose bit an earlier one holds.
-pub fn scan_blocks(cells: &[u8], k: usize, top: u8, m: usize) -> Scan
+// Whether the first n bits differ: each is held against every earlier one, and both loops are left at the first that an earlier one equals.
+fn check_repeats(bits: [usize; 65], n: usize) -> Answer
+    requires { ⌜ (n ≤ 65) × (length bits ≡ 65) ⌝ }
+    ensures { λ r. ⌜ r ≡ differing (take n bits) ⌝ }
+{
+    let mut later: usize = 0;
+    'pairs: while later < n {
+        let mut earlier: usize = 0;
+        while earlier < later {
+            if bits[earlier] == bits[later] {
+                break 'pairs;
+            }
+            earlier += 1;
+        }
+        later += 1;
+    }
+    if later < n {
+        return Answer::BadSheet;
+    }
+    Answer::Done(0)
+}
+
+// The state of block j.
+fn state_at(cells: &[u8], k: usize, top: u8, j: usize) -> BlockState
+    requires { ⌜ (2 ≤ k) × (k ≤ 64) × (1 ≤ top) × (j * k + k ≤ length (now cells)) × (length (now cells) ≤ 65536) ⌝ }
+    requires { ⌜ Low top (now cells) ⌝ }
+    ensures { λ r. ⌜ asState r ≡ states k top (now (cells .entry)) j ⌝ }
+{
+    let a = j * k;
+    let e = a + k;
+    block::state_of(&cells[a..e], top)
+}
+
+// The first empty block once block j is one: the one found before, if any.
+fn first_empty(found: usize, j: usize, m: usize) -> usize
+    ensures { λ r. ⌜ r ≡ pick (decLt found m) found j ⌝ }
+{
+    if found < m { found } else { j }
+}
+
+// One pass over the blocks, runs of full and of empty ones at a stride, left at the first broken block; then the search for a repeat.
+pub fn scan_blocks(cells: &[u8], k: usize, top: u8, m: usize) -> Look
     requires { ⌜ (2 ≤ k) × (k ≤ 64) × (1 ≤ top) × (m * k ≤ length (now cells)) × (length (now cells) ≤ 65536) ⌝ }
     requires { ⌜ Low top (now cells) ⌝ }
     ensures { λ r. ⌜ Scanned k top m (now (cells .entry)) r ⌝ }
 {
     let step = run_blocks(k);
-    let mut empty = m;
+    let mut free = m;
     let mut places = [m; 64];
     let mut weights = [0usize; 64];
-    let mut seen = [0usize; 64];
+    let mut bits = [0usize; 65];
     let mut n: usize = 0;
     let mut next: usize = 0;
-    'each: while next < m {
+    // k + 1 bits below k can't all differ, so no more are noted.
+    'each: while next < m && n <= k {
         let j = next;
-        let a = j * k;
-        let e = a + k;
         next += 1;
-        match block::state_of(&cells[a..e], top) {
+        match state_at(cells, k, top, j) {
             BlockState::Full => {
                 next = past_run(cells, k, step, m, next, top);
                 continue 'each;
             }
             BlockState::Empty => {
-                if m <= empty {
-                    empty = j;
-                }
+                free = first_empty(free, j, m);
                 next = past_run(cells, k, step, m, next, 0);
                 continue 'each;
             }
             BlockState::Broken => return refused(),
             BlockState::Active(bit, weight) => {
-                let mut x = search_from(places[bit], m, n);
-                'earlier: while x < n {
-                    if seen[x] == bit {
-                        return refused();
-                    }
-                    x += 1;
-                }
-                seen[n] = bit;
+                bits[n] = bit;
                 n += 1;
                 places[bit] = j;
                 weights[bit] = weight;
             }
         }
     }
-    Scan {
-        sound: true,
-        empty,
-        places,
-        weights,
-    }
+    look_of(check_repeats(bits, n), places, weights, free)
 }
 
 // The place of a change of this bit: its block, or else the lowest-numbered empty one.
-pub fn place_of(s: Scan, bit: usize, m: usize) -> Found
+pub fn place_of(s: Look, bit: usize, m: usize) -> Found
     requires { ⌜ bit < 64 ⌝ }
     ensures { λ r. ⌜ r ≡ placeIn s bit m ⌝ }
 {
@@ -108,8 +133,8 @@ pub fn place_of(s: Scan, bit: usize, m: usize) -> Found
     if own < m {
         return Found::At(own, s.weights[bit]);
     }
-    if s.empty < m {
-        return Found::At(s.empty, 0);
+    if s.free < m {
+        return Found::At(s.free, 0);
     }
     Found::Nowhere
 }

@@ -7,13 +7,11 @@ use lib.Seq.{take-at}
 use Rattle.rules.specs.Cells.{sum}
 use Rattle.rules.specs.Accept.{refused, genuine?}
 use Rattle.rules.specs.AcceptLaws.{refused-forged}
-use Rattle.rules.specs.Calls.{bitsOf, Outcome, changeCall}
+use Rattle.rules.specs.Calls.{Check, Pass, Refuse, bitsOf, Outcome, changeCall}
 use Rattle.rules.specs.Records.{operation, Step, heldAfter, eraseStep, changeStep, passed, recordStep}
 use Rattle.rules.specs.declared.Settings.{Settings}
 use Rattle.rules.specs.declared.Answer.{Answer}
 use Rattle.rules.specs.declared.Answer.the-variants.{Done, BadShape, BadLength, ShortOutput, BadBit, BadLevel, BadSheet, Erase, BadRecord}
-use Rattle.rules.specs.declared.Check.{Check}
-use Rattle.rules.specs.declared.Check.the-variants.{Pass, Refuse}
 use Rattle.laws.specs.Calls.{Accepted, Refusal, Making, refuses, erases, makes, change-is, Erasing, refusing, clears, erase-is, ask-fails, then-ends, read-passes}
 use Rattle.lifetime.specs.Change.{change-made, erased-accepted}
 use Rattle.records.specs.Meaning.{checkRecord, asked, work, shown, bitsHeld}

@@ -8,14 +8,12 @@ use native.Mathlib.Omega.{arith}
 use lib.ListN.{length, getD, take, drop, drop-of-length-le}
 use lib.Seq.{take-all, take-length, drop-length, length-take-le}
 use Rattle.rules.specs.SearchLaws.{pick-elim}
-use Rattle.rules.specs.Calls.{ask, andThen, Outcome, eraseCall, changeCall}
+use Rattle.rules.specs.Calls.{Check, Pass, Refuse, ask, andThen, Outcome, eraseCall, changeCall}
 use Rattle.rules.specs.Promises.{ErasePromise, ChangePromise}
 use Rattle.rules.specs.Records.{operation, kindAsked, bitsAsked, topAsked, cellsAsked, bitNamed, checkForm, checkUnused, checkHeld, Step, passed, byOperation, recordStep, heldAfter, eraseStep, changeStep, readStep}
 use Rattle.rules.specs.declared.Settings.{Settings}
 use Rattle.rules.specs.declared.Answer.{Answer}
 use Rattle.rules.specs.declared.Answer.the-variants.{BadRecord}
-use Rattle.rules.specs.declared.Check.{Check}
-use Rattle.rules.specs.declared.Check.the-variants.{Pass, Refuse}
 use Rattle.records.specs.Meaning.{stepOf, Form, HeldFacts, checkUse, checkRecord, asked, work, Front}
 
 -- ---- tests that answer BadRecord

@@ -4,13 +4,11 @@ use mathlib.Core.List.{List, []}
 use Prim.Native.Nat.{ℕ, zero, suc, _≤_, _<_}
 use lib.ListN.{length, getD, take, drop, replicate}
 use Rattle.rules.specs.Accept.{accept}
-use Rattle.rules.specs.Calls.{bitsOf, andThen, readChecks}
+use Rattle.rules.specs.Calls.{Check, Pass, Refuse, bitsOf, andThen, readChecks}
 use Rattle.rules.specs.Records.{operation, kindAsked, bitsAsked, topAsked, cellsAsked, bitNamed, checkForm, checkUnused, checkHeld, Step, keep, eraseStep, changeStep, readStep}
 use Rattle.rules.specs.declared.Settings.{Settings}
 use Rattle.rules.specs.declared.Setup.{Setup}
 use Rattle.rules.specs.declared.Answer.the-variants.{BadRecord}
-use Rattle.rules.specs.declared.Check.{Check}
-use Rattle.rules.specs.declared.Check.the-variants.{Pass, Refuse}
 
 -- what a record answers and the settings then held, with the cells after it
 abbrev pub stepOf : Setup → List ℕ → Step

@@ -9,14 +9,12 @@ use lib.Seq.{take-at, drop-at}
 use Rattle.rules.specs.Accept.{mostBits, Genuine, genuine?}
 use Rattle.rules.specs.AcceptLaws.{genuine-common}
 use Rattle.rules.specs.Answer.{numberOf}
-use Rattle.rules.specs.Calls.{readBit, bitsOf, ask, andThen, checkLength, checkOutput, checkLevels, checkSheet, readChecks, Reading, reading, readCall}
+use Rattle.rules.specs.Calls.{Check, Pass, Refuse, readBit, bitsOf, ask, andThen, checkLength, checkOutput, checkLevels, checkSheet, readChecks, Reading, reading, readCall}
 use Rattle.rules.specs.Promises.{readOut, ReadPromise}
 use Rattle.rules.specs.Records.{readStep}
 use Rattle.rules.specs.declared.Settings.{Settings}
 use Rattle.rules.specs.declared.Answer.{Answer}
 use Rattle.rules.specs.declared.Answer.the-variants.{Done, BadShape, BadLength, ShortOutput, BadBit, BadLevel, BadSheet, Erase, BadRecord}
-use Rattle.rules.specs.declared.Check.{Check}
-use Rattle.rules.specs.declared.Check.the-variants.{Pass, Refuse}
 use Rattle.laws.specs.Calls.{Accepted, Refusal, Checked, passed, refused, read-checks, ask-passes}
 use Rattle.laws.specs.Lists.{length-tabulate}
 use Rattle.records.specs.Meaning.{stepOf, Front, shown, bitsHeld, BitsShown}

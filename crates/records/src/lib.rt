@@ -1,12 +1,12 @@
 // One record of the drive program: what it asks for, and what the library makes of it. Assumes nothing.
 use rules::Answer;
-use rules::Check;
 use rules::Settings;
 use rules::Setup;
 ghost use mathlib.Core.Path.{_≡_};
 ghost use Prim.Native.Nat.{_+_, _*_, _≤_, _<_};
 ghost use lib.ListN.{length, getD, take};
 ghost use Rattle.rules.specs.Accept.{mostBits};
+ghost use Rattle.rules.specs.Calls.{asCheck};
 ghost use Rattle.rules.specs.Cells.{sum};
 ghost use Rattle.rules.specs.Records.{operation, cellsAsked, checkForm, checkUnused, checkHeld, heldAfter, eraseStep, changeStep, readStep, recordStep};
 ghost use Rattle.records.specs.Meaning.{stepOf, asked, checkUse, checkRecord, Front, BitsShown};
@@ -44,62 +44,62 @@ fn asked_for(bytes: &[u8]) -> Settings
 }
 
 // The record is whole, its operation is known and its last byte is 0.
-fn check_form(bytes: &[u8]) -> Check
-    ensures { λ r. ⌜ r ≡ checkForm (now (bytes .entry)) ⌝ }
+fn check_form(bytes: &[u8]) -> Answer
+    ensures { λ r. ⌜ asCheck r ≡ checkForm (now (bytes .entry)) ⌝ }
 {
     if bytes.len() != 8 {
-        return Check::Refuse(Answer::BadRecord);
+        return Answer::BadRecord;
     }
     if bytes[0] < 1 {
-        return Check::Refuse(Answer::BadRecord);
+        return Answer::BadRecord;
     }
     if 3 < bytes[0] {
-        return Check::Refuse(Answer::BadRecord);
+        return Answer::BadRecord;
     }
     if bytes[7] != 0 {
-        return Check::Refuse(Answer::BadRecord);
+        return Answer::BadRecord;
     }
-    Check::Pass
+    Answer::Done(0)
 }
 
 // The bit byte is 0.
-fn check_unused(bytes: &[u8]) -> Check
+fn check_unused(bytes: &[u8]) -> Answer
     requires { ⌜ length (now bytes) ≡ 8 ⌝ }
-    ensures { λ r. ⌜ r ≡ checkUnused (now (bytes .entry)) ⌝ }
+    ensures { λ r. ⌜ asCheck r ≡ checkUnused (now (bytes .entry)) ⌝ }
 {
     if bytes[6] != 0 {
-        return Check::Refuse(Answer::BadRecord);
+        return Answer::BadRecord;
     }
-    Check::Pass
+    Answer::Done(0)
 }
 
 // A sheet is held, and the record has its settings.
-fn check_held(bytes: &[u8], held: Settings) -> Check
+fn check_held(bytes: &[u8], held: Settings) -> Answer
     requires { ⌜ length (now bytes) ≡ 8 ⌝ }
-    ensures { λ r. ⌜ r ≡ checkHeld (now (bytes .entry)) held ⌝ }
+    ensures { λ r. ⌜ asCheck r ≡ checkHeld (now (bytes .entry)) held ⌝ }
 {
     if held.k < 1 {
-        return Check::Refuse(Answer::BadRecord);
+        return Answer::BadRecord;
     }
     if byte_at(bytes, 1) != held.kind {
-        return Check::Refuse(Answer::BadRecord);
+        return Answer::BadRecord;
     }
     if byte_at(bytes, 2) != held.k {
-        return Check::Refuse(Answer::BadRecord);
+        return Answer::BadRecord;
     }
     if byte_at(bytes, 3) != held.top {
-        return Check::Refuse(Answer::BadRecord);
+        return Answer::BadRecord;
     }
     if cells_asked(bytes) != held.n {
-        return Check::Refuse(Answer::BadRecord);
+        return Answer::BadRecord;
     }
-    Check::Pass
+    Answer::Done(0)
 }
 
 // The tests that the operation adds: an unused bit byte, a sheet held.
-fn check_use(bytes: &[u8], held: Settings) -> Check
+fn check_use(bytes: &[u8], held: Settings) -> Answer
     requires { ⌜ (length (now bytes) ≡ 8) × (1 ≤ operation (now bytes)) ⌝ }
-    ensures { λ r. ⌜ r ≡ checkUse (operation (now (bytes .entry))) (now (bytes .entry)) held ⌝ }
+    ensures { λ r. ⌜ asCheck r ≡ checkUse (operation (now (bytes .entry))) (now (bytes .entry)) held ⌝ }
 {
     let op = byte_at(bytes, 0);
     if op == 1 {
@@ -108,19 +108,21 @@ fn check_use(bytes: &[u8], held: Settings) -> Check
     if op == 2 {
         return check_held(bytes, held);
     }
-    if let Check::Refuse(answer) = check_unused(bytes) {
-        return Check::Refuse(answer);
-    }
+    let unused = check_unused(bytes);
+    let Answer::Done(_) = unused else {
+        return unused;
+    };
     check_held(bytes, held)
 }
 
 // Every test for BadRecord.
-fn check_record(bytes: &[u8], held: Settings) -> Check
-    ensures { λ r. ⌜ r ≡ checkRecord (now (bytes .entry)) held ⌝ }
+fn check_record(bytes: &[u8], held: Settings) -> Answer
+    ensures { λ r. ⌜ asCheck r ≡ checkRecord (now (bytes .entry)) held ⌝ }
 {
-    if let Check::Refuse(answer) = check_form(bytes) {
-        return Check::Refuse(answer);
-    }
+    let form = check_form(bytes);
+    let Answer::Done(_) = form else {
+        return form;
+    };
     check_use(bytes, held)
 }
 
@@ -190,12 +192,13 @@ fn obey_read(held: Settings, cells: &[u8]) -> Setup
 pub fn obey(bytes: &[u8], held: Settings, cells: &mut [u8]) -> Setup
     ensures { λ r. ⌜ stepOf r (now (cells .exit)) ≡ recordStep (now (bytes .entry)) held (now (cells .entry)) ⌝ }
 {
-    if let Check::Refuse(answer) = check_record(bytes, held) {
+    let answer = check_record(bytes, held);
+    let Answer::Done(_) = answer else {
         return Setup {
             answer,
             settings: held,
         };
-    }
+    };
     let op = byte_at(bytes, 0);
     if op == 1 {
         return obey_erase(asked_for(bytes), held, cells);

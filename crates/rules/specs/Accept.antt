@@ -120,11 +120,23 @@ guaranteeAt (suc kind) r = r .m * r .k * r .top - (r .k - 1) * (2 * r .top + r .
 unfoldable pub guarantee : Settings → ℕ
 guarantee r = guaranteeAt (r .kind) r
 
--- the guarantee reported for settings; 0 for a record that acceptance never gives
-unfoldable pub promised : Settings → ℕ
-promised r = pick (genuine? r) (guarantee r) 0
+-- ---- what a settings record reports: 0 for one that acceptance never gives
 
--- ---- where a batch stands
+-- a number of the record, where it is genuine
+unfoldable pub reported : Settings → ℕ → ℕ
+reported r x = pick (genuine? r) x 0
+
+-- the guarantee
+abbrev pub promised : Settings → ℕ
+promised r = reported r (guarantee r)
+
+-- m, the number of blocks
+abbrev pub blockCount : Settings → ℕ
+blockCount r = reported r (r .m)
+
+-- w, the cells of an index block
+abbrev pub widthOf : Settings → ℕ
+widthOf r = reported r (r .w)
 
 -- the first cell of a batch from 1 to s - 1; 0 for any other number, and for a record that acceptance never gives
 unfoldable pub batchStart : Settings → ℕ → ℕ

@@ -12,9 +12,7 @@ use Rattle.rules.specs.Accept.{accept, genuine?, guarantee}
 use Rattle.rules.specs.declared.Settings.{Settings}
 use Rattle.rules.specs.declared.Setup.{Setup}
 use Rattle.rules.specs.declared.Answer.{Answer}
-use Rattle.rules.specs.declared.Answer.the-variants.{Done, BadShape, BadLength, ShortOutput, BadBit, BadLevel, BadSheet, Erase}
-use Rattle.rules.specs.declared.Check.{Check}
-use Rattle.rules.specs.declared.Check.the-variants.{Pass, Refuse}
+use Rattle.rules.specs.declared.Answer.the-variants.{Done, BadShape, BadLength, ShortOutput, BadBit, BadLevel, BadSheet, Erase, BadRecord}
 
 -- ---- what the cells of a sheet say, by the kind of its settings
 
@@ -60,6 +58,23 @@ changeSheet r xs i = changeAt (r .kind) r xs i
 
 -- ---- the checks
 
+-- what a check finds: nothing against the call, or its refusal
+pub data Check : Type 0 where
+  Pass : Check
+  Refuse : Answer → Check
+
+-- an answer as a check's: Done passes, any other is its refusal
+abbrev pub asCheck : Answer → Check
+asCheck (Done v) = Pass
+asCheck BadShape = Refuse BadShape
+asCheck BadLength = Refuse BadLength
+asCheck ShortOutput = Refuse ShortOutput
+asCheck BadBit = Refuse BadBit
+asCheck (BadLevel c) = Refuse (BadLevel c)
+asCheck BadSheet = Refuse BadSheet
+asCheck Erase = Refuse Erase
+asCheck BadRecord = Refuse BadRecord
+
 -- a check passes, or refuses with its answer
 abbrev pub ask : {A : Type 0} → Dec A → Answer → Check
 ask d a = pick d Pass (Refuse a)
@@ -102,13 +117,17 @@ checkSheet r xs = ask (sound? r xs) BadSheet
 abbrev pub eraseChecks : Settings → List ℕ → Check
 eraseChecks r xs = andThen (checkShape r) (checkLength r xs)
 
+-- a call on a sheet runs 1 and 2, the check of what it asks for itself, and then 5 and 6
+abbrev pub sheetChecks : Settings → List ℕ → Check → Check
+sheetChecks r xs own = andThen (checkShape r) (andThen (checkLength r xs) (andThen own (andThen (checkLevels r xs) (checkSheet r xs))))
+
 -- read runs checks 1, 2, 3, 5 and 6
 abbrev pub readChecks : Settings → List ℕ → List ℕ → Check
-readChecks r xs out = andThen (checkShape r) (andThen (checkLength r xs) (andThen (checkOutput r out) (andThen (checkLevels r xs) (checkSheet r xs))))
+readChecks r xs out = sheetChecks r xs (checkOutput r out)
 
 -- change runs checks 1, 2, 4, 5 and 6; the seventh is the encoding map's own
 abbrev pub changeChecks : Settings → List ℕ → ℕ → Check
-changeChecks r xs i = andThen (checkShape r) (andThen (checkLength r xs) (andThen (checkBit r i) (andThen (checkLevels r xs) (checkSheet r xs))))
+changeChecks r xs i = sheetChecks r xs (checkBit r i)
 
 -- ---- the calls
 

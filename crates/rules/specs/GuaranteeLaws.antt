@@ -9,7 +9,7 @@ use lib.Pow.{pow-mono}
 use Rattle.rules.specs.Search.{both?, at}
 use Rattle.rules.specs.SearchLaws.{pick-yes, pick-no}
 use Rattle.rules.specs.Batches.{batchCells, indexCells}
-use Rattle.rules.specs.Accept.{mostBits, mostTop, mostCells, mostStages, Genuine, genuine?, guarantee, promised, batchStart}
+use Rattle.rules.specs.Accept.{mostBits, mostTop, mostCells, mostStages, Genuine, genuine?, guarantee, reported, batchStart}
 use Rattle.rules.specs.declared.Settings.{Settings}
 use Rattle.rules.specs.StagesLaws.{below-pow}
 use Rattle.rules.specs.AcceptLaws.{PlainFacts, StagedFacts, CommonFacts, genuine-facts, staged-bits}
@@ -80,15 +80,17 @@ guarantee-pos r g =
     (λ f. rw (guarantee-staged r f) (omega (arith, stages-cost r f)))
     (genuine-facts r g)
 
--- the guarantee reported is that of a genuine record
-pub promised-is : (r : Settings) → Genuine r → promised r ≡ guarantee r
-unfolding promised
-promised-is r g = pick-yes (genuine? r) (guarantee r) 0 g
+-- ---- what a record reports
 
--- and 0 of any other
-pub promised-none : (r : Settings) → ¬ (Genuine r) → promised r ≡ 0
-unfolding promised
-promised-none r h = pick-no (genuine? r) (guarantee r) 0 h
+-- a genuine record reports its numbers
+pub reported-is : (r : Settings) (x : ℕ) → Genuine r → reported r x ≡ x
+unfolding reported
+reported-is r x g = pick-yes (genuine? r) x _ g
+
+-- and any other 0
+pub reported-none : (r : Settings) (x : ℕ) → ¬ (Genuine r) → reported r x ≡ 0
+unfolding reported
+reported-none r x h = pick-no (genuine? r) x 0 h
 
 -- ---- batches
 

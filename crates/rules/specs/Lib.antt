@@ -16,3 +16,4 @@ pub mod Calls
 pub mod Promises
 pub mod Records
 pub mod Numbers
+pub mod RuledOut

@@ -4,12 +4,10 @@ use Prim.Native.Nat.{ℕ, zero, suc, _+_, _*_}
 use native.Mathlib.Decide.{ℕ-discrete, decLe, decLt}
 use lib.ListN.{length, getD, take, drop, replicate}
 use Rattle.rules.specs.Accept.{accept}
-use Rattle.rules.specs.Calls.{ask, andThen, eraseCall, changeCall, readCall}
+use Rattle.rules.specs.Calls.{Check, Pass, Refuse, ask, andThen, eraseCall, changeCall, readCall}
 use Rattle.rules.specs.declared.Settings.{Settings}
 use Rattle.rules.specs.declared.Answer.{Answer}
 use Rattle.rules.specs.declared.Answer.the-variants.{Done, BadShape, BadLength, ShortOutput, BadBit, BadLevel, BadSheet, Erase, BadRecord}
-use Rattle.rules.specs.declared.Check.{Check}
-use Rattle.rules.specs.declared.Check.the-variants.{Pass, Refuse}
 
 -- ---- the bytes of a record
 

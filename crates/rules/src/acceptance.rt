@@ -4,7 +4,7 @@ ghost use mathlib.Core.Bool.{true, false};
 ghost use Prim.Native.Nat.{_+_, _-_, _*_, _≤_, _<_};
 ghost use Rattle.rules.specs.Search.{pick};
 ghost use Rattle.rules.specs.Batches.{batchCells, indexCells};
-ghost use Rattle.rules.specs.Accept.{mostBits, mostTop, mostStages, acceptPlain, stagesOf, indexWidth, acceptStaged, accept, Genuine, sameSettings?, genuine?, guarantee, promised, batchStart};
+ghost use Rattle.rules.specs.Accept.{mostBits, mostTop, mostStages, acceptPlain, stagesOf, indexWidth, acceptStaged, accept, Genuine, sameSettings?, genuine?, guarantee, promised, blockCount, widthOf, batchStart};
 ghost use Rattle.rules.specs.AcceptLaws.{PlainFacts, StagedFacts};
 ghost use Rattle.rules.specs.Calls.{settingsCall};
 use crate::Answer;
@@ -104,18 +104,24 @@ impl Settings {
         self.m * self.k * self.top - (self.k - 1) * (2 * self.top + self.s - 1)
     }
 
-    // The number of blocks of k cells.
+    // The number of blocks of k cells; 0 for a record that acceptance never gives.
     pub fn blocks(self) -> usize
-        ensures { λ r. ⌜ r ≡ self .m ⌝ }
+        ensures { λ r. ⌜ r ≡ blockCount self ⌝ }
     {
-        self.m
+        if self.genuine() {
+            return self.m;
+        }
+        0
     }
 
-    // The cells of an index block.
+    // The cells of an index block; 0 for a plain sheet, and for a record that acceptance never gives.
     pub fn width(self) -> usize
-        ensures { λ r. ⌜ r ≡ self .w ⌝ }
+        ensures { λ r. ⌜ r ≡ widthOf self ⌝ }
     {
-        self.w
+        if self.genuine() {
+            return self.w;
+        }
+        0
     }
 
     // The first cell of a batch from 1 to s - 1; 0 for any other, and for a record that acceptance never gives.

@@ -45,10 +45,17 @@ pub struct Setup {
     pub settings: Settings,
 }
 
-// What a check finds: nothing against the call, or its refusal.
-pub enum Check {
-    Pass,
-    Refuse(Answer),
+// What a look at a sheet finds: check 6's answer, Done with the stage that the sheet is in or BadSheet; the first cell of the stage's batch;
+// and for each bit, and for the first block that no bit has, the block, its index block and its weight. The number of blocks stands for none.
+pub struct Look {
+    pub answer: Answer,
+    pub batch: usize,
+    pub places: [usize; 64],
+    pub slots: [usize; 64],
+    pub weights: [usize; 64],
+    pub free: usize,
+    pub free_slot: usize,
+    pub free_weight: usize,
 }
 
 impl Answer {

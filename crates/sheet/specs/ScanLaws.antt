@@ -9,31 +9,19 @@ use lib.Pow.{pow-pos}
 use lib.Seq.{length-take-le}
 use Rattle.rules.specs.Search.{at}
 use Rattle.rules.specs.Cells.{Low, chop}
-use Rattle.rules.specs.Staged.{parityLength, parityCount, parityBlocks, indexBlocks}
+use Rattle.rules.specs.Staged.{parityLength, parityCount, parityBlocks}
 use Rattle.rules.specs.Staged as S
-use Rattle.rules.specs.Batches.{batchCells, batch}
+use Rattle.rules.specs.Batches.{batchCells}
 use Rattle.rules.specs.AcceptLaws.{StagedFacts, staged-bits}
 use Rattle.rules.specs.declared.Settings.{Settings}
 use Rattle.laws.specs.Lists.{low-take, low-drop}
-use Rattle.stage.specs.Meaning.{entries, StageFits, StageScanned}
-use Rattle.stage.specs.PlaceLaws.{stage-read}
-use Rattle.stage.specs.declared.StageScan.{StageScan}
-use Rattle.sheet.specs.Meaning.{Levelled, BitsOf}
+use Rattle.stage.specs.Meaning.{entries, StageFits, StageScanned, right, wrong}
+use Rattle.stage.specs.PlaceLaws.{stage-ok, stage-read}
+use Rattle.rules.specs.declared.Look.{Look}
+use Rattle.sheet.specs.Meaning.{AtStage, Levelled, LookOf, ScannedAt, batchAt, breaks, keeps, later, mBlocks, stageBatch}
 use Rattle.sheet.specs.LayoutLaws.{cells-most, batch-inside, parity-cells}
-use Rattle.sheet.specs.StageLaws.{AtStage, stage-sound, sound-stage, read-stage, batch-length, batch-part}
+use Rattle.sheet.specs.StageLaws.{stage-sound, sound-stage, read-stage, batch-length, batch-part}
 use Rattle.sheet.specs.ZeroLaws.{cells-in}
-
--- the m blocks
-abbrev pub mBlocks : Settings → List ℕ → List ℕ
-mBlocks r f = take (r .m * 2 ^ r .s) f
-
--- the batch of the stage with d left
-abbrev pub stageBatch : Settings → List ℕ → ℕ → List ℕ
-stageBatch r f d = batch (r .s) (r .m) (r .w) f d
-
--- a scan of the stage with d left
-abbrev pub ScannedAt : Settings → List ℕ → ℕ → StageScan → Type 0
-ScannedAt r f d s = StageScanned (2 ^ r .s) (parityLength d * r .top) (parityBlocks (r .s) (r .m) d (mBlocks r f)) (entries (r .top) (r .w) (indexBlocks (r .s)) (stageBatch r f d)) s
 
 -- ---- an index block's numbers are small
 
@@ -81,10 +69,6 @@ module _ (r : Settings) (p : StagedFacts r) (f : List ℕ) (v : Levelled r f) wh
       cut : take c f ≡ mBlocks r f
       cut = ap (λ (x : ℕ). take x f) e₁
 
-      -- the parts as they are lent
-      pub batch-end : a + b ≤ length f
-      batch-end = omega (arith, batch-inside r p d h, v .long)
-
       -- what the scan asks for, as they are lent
       pub stage-asks : StageFits len count (r .w) (r .k) (r .top) (take c f) (take (a + b - a) (drop a f))
       stage-asks = subst₂ (λ (xs ys : List ℕ). StageFits len count (r .w) (r .k) (r .top) xs ys) (sym cut) (sym lent)
@@ -92,17 +76,17 @@ module _ (r : Settings) (p : StagedFacts r) (f : List ℕ) (v : Levelled r f) wh
           (subst (λ (k : ℕ). StageFits (parityLength d) (parityCount (r .s) (r .m) d) (r .w) k (r .top) (mBlocks r f) (stageBatch r f d)) (p .bits) stage-fits))
 
       -- and what it says of the stage
-      pub stage-told : (s : StageScan) → StageScanned (r .k) (len * r .top) (chop len count (take c f)) (entries (r .top) (r .w) (2 * (r .k - 1)) (take (a + b - a) (drop a f))) s → ScannedAt r f d s
-      stage-told s g =
-          subst (λ (k : ℕ). StageScanned k (parityLength d * r .top) (parityBlocks (r .s) (r .m) d (mBlocks r f)) (entries (r .top) (r .w) (2 * (k - 1)) (stageBatch r f d)) s) (sym (p .bits))
-          (subst₂ (λ (x y : ℕ). StageScanned (r .k) (x * r .top) (chop x y (mBlocks r f)) (entries (r .top) (r .w) (2 * (r .k - 1)) (stageBatch r f d)) s) e₄ e₅
-          (subst₂ (λ (xs ys : List ℕ). StageScanned (r .k) (len * r .top) (chop len count xs) (entries (r .top) (r .w) (2 * (r .k - 1)) ys) s) cut lent g))
+      pub stage-told : (x : ℕ) (s : Look) → x ≡ r .s - 1 - d → StageScanned x a (r .k) (len * r .top) (chop len count (take c f)) (entries (r .top) (r .w) (2 * (r .k - 1)) (take (a + b - a) (drop a f))) s → ScannedAt r f d s
+      stage-told x s e g =
+          let z : ℕ = r .s - 1 - d in
+          subst (λ (k : ℕ). StageScanned z (batchAt r d) k (parityLength d * r .top) (parityBlocks (r .s) (r .m) d (mBlocks r f)) (entries (r .top) (r .w) (2 * (k - 1)) (stageBatch r f d)) s) (sym (p .bits))
+          (subst₂ (λ (y n : ℕ). StageScanned z (batchAt r d) (r .k) (y * r .top) (chop y n (mBlocks r f)) (entries (r .top) (r .w) (2 * (r .k - 1)) (stageBatch r f d)) s) e₄ e₅
+          (subst₂ (λ (y n : ℕ). StageScanned y n (r .k) (len * r .top) (chop len count (mBlocks r f)) (entries (r .top) (r .w) (2 * (r .k - 1)) (stageBatch r f d)) s) e e₂
+          (subst₂ (λ (xs ys : List ℕ). StageScanned x a (r .k) (len * r .top) (chop len count xs) (entries (r .top) (r .w) (2 * (r .k - 1)) ys) s) cut lent g)))
 
   -- a scan of the stage is a look at the whole sheet
-  pub stage-bits : (d : ℕ) → AtStage r f (at d) → (s : StageScan) → ScannedAt r f d s → BitsOf r f (record { sound = s .sound; weights = s .weights })
+  pub stage-look : (d : ℕ) → AtStage r f (at d) → (s : Look) → ScannedAt r f d s → LookOf r f s
   unfolding S.read
-  stage-bits d a s h = record {
-    sound = λ t. stage-sound r p f (at d) a (h .right t .as-many, h .right t .names);
-    broken = λ t q. h .wrong t .0 (sound-stage r p f (at d) a q);
-    values = λ t i l. read-stage r p f (at d) a i ∙ stage-read h t i (omega (arith, staged-bits r p .1));
-  }
+  stage-look d a s (right h) = keeps (r .s - 1 - d) (h .answer) (stage-sound r p f (at d) a (stage-ok h))
+      (λ i l. read-stage r p f (at d) a i ∙ stage-read h i (omega (arith, staged-bits r p .1))) (later p d (record { stage = a; passed = h }))
+  stage-look d a s (wrong e n) = breaks (ap (λ (b : Look). b .answer) e) (λ q. n (sound-stage r p f (at d) a q))

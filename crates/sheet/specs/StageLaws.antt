@@ -7,38 +7,25 @@ use native.Mathlib.Decide.{decLt}
 use native.Mathlib.Omega.{arith}
 use lib.ListN.{length, take, drop, replicate, length-drop}
 use lib.Seq.{drop-drop}
-use Rattle.rules.specs.Search.{pick, Found, at, nowhere, first}
+use Rattle.rules.specs.Search.{pick, Found, at, nowhere}
 use Rattle.rules.specs.SearchLaws.{First, hit, miss, first-is}
 use Rattle.rules.specs.Cells.{sum, same?, block}
 use Rattle.rules.specs.Plain.{Spare}
 use Rattle.rules.specs.Staged.{Sheet, SheetOk, readCells}
 use Rattle.rules.specs.Staged as S
-use Rattle.rules.specs.Batches.{batchCells, indexCells, batch, sheetAt, decode}
+use Rattle.rules.specs.Batches.{batchCells, batch, sheetAt, decode}
 use Rattle.rules.specs.AcceptLaws.{StagedFacts, staged-inside}
 use Rattle.rules.specs.Calls.{Sound, readBit}
 use Rattle.rules.specs.declared.Settings.{Settings}
-use Rattle.sheet.specs.Meaning.{Levelled}
+use Rattle.sheet.specs.Meaning.{AtStage, Levelled, spareAt, stageFound}
 use Rattle.sheet.specs.Laws.{partFrom, spare-true, spare-false}
 use Rattle.sheet.specs.LayoutLaws.{batch-inside}
 use Rattle.laws.specs.Cut.{length-block}
 use Rattle.laws.specs.Kinds.{staged-sound, sound-staged, staged-read}
 
--- the stages whose batch has a cell above 0: the search that tells the stage
-abbrev pub stageFound : Settings → List ℕ → Found
-stageFound r f = first (λ d. decLt 0 (sum (batch (r .s) (r .m) (r .w) f d))) (r .s - 1)
-
--- the first spare cell
-abbrev pub spareAt : Settings → ℕ
-spareAt r = r .m * 2 ^ r .s + indexCells (r .s) (r .w)
-
 -- what the cells mean in the stage x
 abbrev pub meaning : Settings → List ℕ → Found → Sheet
 meaning r f x = sheetAt (r .s) (r .m) (r .top) (r .w) f x
-
--- a sheet whose spare cells are 0, at the stage x
-pub record AtStage (r : Settings) (f : List ℕ) (x : Found) : Type 0 where
-  pub spare : Spare (spareAt r) (r .n) f
-  pub stage : stageFound r f ≡ x
 
 module _ (r : Settings) (p : StagedFacts r) (f : List ℕ) where
   -- without spare cells at 0 a sheet breaks the rules

@@ -1,6 +1,5 @@
 -- Laws of a change at a stage from 1 up: the cells after it, put back over the sheet, and the levels raised. Assumes nothing.
 use mathlib.Core.Path.{_≡_, refl, sym, ap, ap₂, _∙_, subst, subst₂}
-use mathlib.Core.Bool.{true, false}
 use mathlib.Core.List.{List, _++_, map}
 use mathlib.Core.Logic.{_≢_}
 use Prim.Native.Nat.{ℕ, suc, _+_, _-_, _*_, _%_, _^_, _≤_, _<_}
@@ -19,9 +18,10 @@ use Rattle.rules.specs.SearchLaws.{pick-no, pick-yes}
 use Rattle.rules.specs.Stage.{Entry, Within, beyond, changeWithin, closed, index, raise, stay}
 use Rattle.rules.specs.Staged.{after, change, changeCells, fromStaged, indexBlocks, later, liveCount, parityBlocks, parityCount, parityLength, written}
 use Rattle.rules.specs.Staged as S
-use Rattle.rules.specs.declared.Answer.the-variants.{BadSheet, Done}
+use Rattle.rules.specs.declared.Answer.the-variants.{Done}
+use Rattle.rules.specs.declared.Look.{Look}
 use Rattle.rules.specs.declared.Settings.{Settings}
-use Rattle.laws.specs.Calls.{sheet-broken, sheet-maps}
+use Rattle.laws.specs.Calls.{sheet-maps}
 use Rattle.laws.specs.Cut.{length-block, length-store, low-block, low-store, store-back, store-sum, sum-split}
 use Rattle.laws.specs.Index.{digits-low, length-digits}
 use Rattle.laws.specs.Kinds.{staged-change}
@@ -29,25 +29,16 @@ use Rattle.laws.specs.Lists.{low-append, low-drop, low-take, sum-append, sum-lo
 use Rattle.laws.specs.Put.{put-store}
 use Rattle.laws.specs.Splice.{part, part-part, part-spliced, spliced, spliced-put, sum-spliced}
 use Rattle.laws.specs.Stage.{raise-length, raise-low, raise-sum}
-use Rattle.stage.specs.Meaning.{PlaceWithin, Stays, at-free, at-none, at-own, entries, placeIn}
+use Rattle.stage.specs.Meaning.{Stays, at-free, at-none, at-own, entries, placeIn}
 use Rattle.stage.specs.PlaceLaws.{stage-ok, stage-place, stage-read}
 use Rattle.stage.specs.declared.StagePlace.{StagePlace}
 use Rattle.stage.specs.declared.StagePlace.the-variants.{Beyond, Free, Own}
-use Rattle.stage.specs.declared.StageScan.{StageScan}
 use Rattle.sheet.specs.LayoutLaws.{batch-inside, length-most, parity-cells}
-use Rattle.sheet.specs.Meaning.{Levelled, fromSheet}
+use Rattle.sheet.specs.Meaning.{AtStage, Levelled, PassedAt, PlaceAt, fromSheet, indexAt, mBlocks, stageBatch}
 use Rattle.sheet.specs.MoveLaws.{Stuck}
-use Rattle.sheet.specs.ScanLaws.{ScannedAt, mBlocks, stage-fits, stageBatch}
-use Rattle.sheet.specs.StageLaws.{AtStage, batch-length, dark-staged, decode-at, meaning, sound-stage, stage-below, stage-sound}
+use Rattle.sheet.specs.ScanLaws.{stage-fits}
+use Rattle.sheet.specs.StageLaws.{batch-length, dark-staged, decode-at, meaning, stage-below, stage-sound}
 use Rattle.sheet.specs.ZeroLaws.{cells-in}
-
--- what a place means for the change of bit i at the stage with d left
-abbrev pub PlaceAt : Settings → List ℕ → ℕ → ℕ → StagePlace → Type 0
-PlaceAt r f i d x = PlaceWithin (parityLength d) (parityCount (r .s) (r .m) d) (r .w) (2 ^ r .s) (r .top) i (mBlocks r f) (stageBatch r f d) x
-
--- the first cell of index block x of that stage
-abbrev pub indexAt : Settings → ℕ → ℕ → ℕ
-indexAt r d x = r .m * 2 ^ r .s + (r .s - 2 - d) * batchCells (r .s) (r .w) + x * r .w
 
 -- the m blocks with parity block j of that stage raised by one
 abbrev pub raisedBlocks : Settings → List ℕ → ℕ → ℕ → List ℕ
@@ -79,21 +70,21 @@ module _ (r : Settings) (p : StagedFacts r) (d : ℕ) (h : d < r .s - 1) (x : �
 -- ---- an index block set, as it is lent and put back
 
 -- what setting it leaves and says: the cells b in its place, and y levels raised
-pub record IndexSet (r : Settings) (f : List ℕ) (d x : ℕ) (b ys : List ℕ) (y : ℕ) : Type 0 where
-  pub cells : ys ≡ spliced (indexAt r d x) b f
+pub record IndexSet (a : ℕ) (f b ys : List ℕ) (y : ℕ) : Type 0 where
+  pub cells : ys ≡ spliced a b f
   pub raised : y + sum f ≡ sum ys
   pub small : y ≤ 65536 * 255
 
--- the levels of w cells, at most
-pub width-most : (r : Settings) → StagedFacts r → (d x : ℕ) → d < r .s - 1 → x < indexBlocks (r .s) → r .w * r .top ≤ 16384 * 255
-width-most r p d x h l =
-    let a : r .w ≤ 16384 = omega (arith, index-in r p d h x l, p .cells-most) in
-    mul-le-mul a (p .top-most)
+-- the levels of w cells that lie in the sheet, at most
+pub width-most : (r : Settings) → StagedFacts r → (a : ℕ) → a + r .w ≤ r .n → r .w * r .top ≤ 16384 * 255
+width-most r p a h =
+    let b : r .w ≤ 16384 = omega (arith, p .cells-most) in
+    mul-le-mul b (p .top-most)
 
-module _ (r : Settings) (p : StagedFacts r) (f : List ℕ) (v : Levelled r f) (d x : ℕ) (h : d < r .s - 1) (l : x < indexBlocks (r .s)) (a : ℕ) (e : a ≡ indexAt r d x) where
+module _ (r : Settings) (p : StagedFacts r) (f : List ℕ) (v : Levelled r f) (a : ℕ) (h : a + r .w ≤ r .n) where
   -- it lies in the sheet
   inside-sheet : a + r .w ≤ length f
-  inside-sheet = omega (arith, index-in r p d h x l, v .long)
+  inside-sheet = omega (arith, v .long)
 
   -- as it is lent, it has w cells
   lent-width : a + r .w - a ≡ r .w
@@ -115,32 +106,32 @@ module _ (r : Settings) (p : StagedFacts r) (f : List ℕ) (v : Levelled r f) (d
 
   -- raised to full
   pub fill-told : (q : ℕ) (ys : List ℕ) → q ≡ sum (take (a + r .w - a) (drop a f)) → ys ≡ replicate (length (take (a + r .w - a) (drop a f))) (r .top)
-      → IndexSet r f d x (replicate (r .w) (r .top)) (take a f ++ (ys ++ drop (a + r .w - a) (drop a f))) (r .w * r .top - q)
+      → IndexSet a f (replicate (r .w) (r .top)) (take a f ++ (ys ++ drop (a + r .w - a) (drop a f))) (r .w * r .top - q)
   fill-told q ys z k =
       let b : List ℕ = replicate (r .w) (r .top) in
       let c : take a f ++ (ys ++ drop (a + r .w - a) (drop a f)) ≡ spliced a b f = put-back b ys (length-replicate (r .w) (r .top)) (k ∙ ap {B = List ℕ} (λ n. replicate n (r .top)) lent-long) in
       let g : sum (part a (length b) f) ≡ q = ap (λ (n : ℕ). sum (part a n f)) (length-replicate (r .w) (r .top) ∙ sym lent-width) ∙ sym z in
       record {
-        cells = c ∙ ap (λ (y : ℕ). spliced y b f) e;
+        cells = c;
         raised = omega (arith, ap sum c, sum-spliced a b f, sum-replicate (r .w) (r .top), lent-most q z);
-        small = omega (arith, width-most r p d x h l);
+        small = omega (arith, width-most r p a h);
       }
 
   -- a free one set to a number
-  pub name-told : (u q : ℕ) (ys : List ℕ) → u < suc (r .top) ^ r .w → sum (part (indexAt r d x) (r .w) f) ≡ 0 → ys ≡ digits (suc (r .top)) (length (take (a + r .w - a) (drop a f))) u
+  pub name-told : (u q : ℕ) (ys : List ℕ) → u < suc (r .top) ^ r .w → sum (part a (r .w) f) ≡ 0 → ys ≡ digits (suc (r .top)) (length (take (a + r .w - a) (drop a f))) u
       → q ≡ sum (take (a + r .w - a) (drop a (take a f ++ (ys ++ drop (a + r .w - a) (drop a f)))))
-      → IndexSet r f d x (digits (suc (r .top)) (r .w) u) (take a f ++ (ys ++ drop (a + r .w - a) (drop a f))) q
+      → IndexSet a f (digits (suc (r .top)) (r .w) u) (take a f ++ (ys ++ drop (a + r .w - a) (drop a f))) q
   name-told u q ys m o z k =
       let b : List ℕ = digits (suc (r .top)) (r .w) u in
       let n : length b ≡ r .w = length-digits (suc (r .top)) (r .w) u in
       let c : take a f ++ (ys ++ drop (a + r .w - a) (drop a f)) ≡ spliced a b f = put-back b ys n (z ∙ ap (λ (n : ℕ). digits (suc (r .top)) n u) lent-long) in
-      let g : sum (part a (length b) f) ≡ 0 = ap₂ (λ (y n : ℕ). sum (part y n f)) e n ∙ o in
+      let g : sum (part a (length b) f) ≡ 0 = ap (λ (n : ℕ). sum (part a n f)) n ∙ o in
       let t : q ≡ sum b = k ∙ ap (λ (c : List ℕ). sum (part a (a + r .w - a) c)) c ∙ ap sum (part-spliced a (a + r .w - a) b f (n ∙ sym lent-width) (omega (arith, inside-sheet))) in
       let y : sum b ≤ r .w * r .top = subst (λ (n : ℕ). sum b ≤ n * r .top) n (sum-low (r .top) b (digits-low (r .top) (r .w) u m)) in
       record {
-        cells = c ∙ ap (λ (y : ℕ). spliced y b f) e;
+        cells = c;
         raised = omega (arith, ap sum c, sum-spliced a b f);
-        small = omega (arith, width-most r p d x h l);
+        small = omega (arith, width-most r p a h);
       }
 
 -- ---- one stage's parts, with m blocks of any levels before them
@@ -313,31 +304,27 @@ module _ (r : Settings) (p : StagedFacts r) (f : List ℕ) (v : Levelled r f) (i
   unfolding changeCells
   stay-change e = staged-change r p f i ∙ ap (written (write (r .s) (r .m) (r .top) (r .w)) f) (within-change e)
 
-  -- a sheet that breaks the rules of its stage
-  pub stage-broken : {s : StageScan} → ScannedAt r f d s → s .sound ≡ false → outcome BadSheet f ≡ fromSheet r f i
-  stage-broken g t = sym (sheet-broken r f i (λ q. g .wrong t .0 (sound-stage r p f (at d) a q)))
-
-  -- and one that keeps them
-  pub stage-keeps : {s : StageScan} → ScannedAt r f d s → s .sound ≡ true → Sound r f
-  stage-keeps g t = stage-sound r p f (at d) a (stage-ok g t)
-
   -- the place of the change
-  pub place-at : {s : StageScan} → ScannedAt r f d s → s .sound ≡ true → i < r .k → (count : ℕ) {x y : StagePlace} → count ≡ parityCount (r .s) (r .m) d → x ≡ placeIn s i count → x ≡ y → PlaceAt r f i d y
-  place-at {s} g t l count e q z =
-      subst (PlaceAt r f i d) (ap (placeIn s i) (sym e) ∙ sym q ∙ z) (stage-place (stage-fits r p f v d below) g t i (omega (arith, p .bits)))
+  pub place-at : {s : Look} → PassedAt r f d s → i < r .k → (count : ℕ) {x y : StagePlace} → count ≡ parityCount (r .s) (r .m) d → x ≡ placeIn s i count → x ≡ y → PlaceAt r f i d y
+  place-at {s} g l count e q z =
+      subst (PlaceAt r f i d) (ap (placeIn s i) (sym e) ∙ sym q ∙ z) (stage-place (stage-fits r p f v d below) g i (omega (arith, p .bits)))
+
+  -- the sheet keeps the rules where its stage does
+  pub stage-keeps : {s : Look} → PassedAt r f d s → Sound r f
+  stage-keeps g = stage-sound r p f (at d) a (stage-ok g)
 
   -- a change that goes on to a later stage, with the values that the scan's weights give
-  pub goes-on : {s : StageScan} → ScannedAt r f d s → s .sound ≡ true → PlaceAt r f i d Beyond → Stuck r f i d (s .weights)
+  pub goes-on : {s : Look} → PassedAt r f d s → PlaceAt r f i d Beyond → Stuck r f i d (s .weights)
   unfolding S.read
-  goes-on {s} g t h = record {
-    sound = stage-keeps g t;
+  goes-on {s} g h = record {
+    sound = stage-keeps g;
     left = omega (arith, below);
     few = place-says r f i d h .1;
     dark = dark-staged r p f d (a .stage);
     goes = within-change (place-says r f i d h .0)
         ∙ ap (later (r .s) (r .m) (r .top) d (mBlocks r f))
         (tabulate-same (2 ^ r .s) (after i (S.read (r .s) (r .m) (r .top) (meaning r f (at d)))) (after i (λ y. getD (s .weights) y 0 % 2))
-        (λ y l. ap (λ (z : ℕ). pick (ℕ-discrete y i) (1 - z) z) (stage-read g t y (omega (arith, p .bits, staged-bits r p .1)))));
+        (λ y l. ap (λ (z : ℕ). pick (ℕ-discrete y i) (1 - z) z) (stage-read g y (omega (arith, p .bits, staged-bits r p .1)))));
   }
 
   module _ (s : Sound r f) where

@@ -1,6 +1,5 @@
 -- Laws of a change at stage 0 of a staged sheet: the plain step on the m blocks, or no place there. Assumes nothing.
 use mathlib.Core.Path.{_≡_, refl, sym, ap, ap₂, _∙_, subst, subst₂}
-use mathlib.Core.Bool.{true, false}
 use mathlib.Core.List.{List, _++_, append-assoc}
 use Prim.Native.Nat.{ℕ, _+_, _-_, _*_, _%_, _^_, _≤_, _<_}
 use native.Mathlib.Decide.{ℕ-discrete}
@@ -17,8 +16,9 @@ use Rattle.rules.specs.Staged.{stage0, after, later, written, changeCells, from
 use Rattle.rules.specs.Staged as S
 use Rattle.rules.specs.Batches.{decode, write}
 use Rattle.rules.specs.AcceptLaws.{StagedFacts, staged-bits}
-use Rattle.rules.specs.Calls.{Sound, changeSheet}
+use Rattle.rules.specs.Calls.{Pass, Sound, asCheck, changeSheet}
 use Rattle.rules.specs.Promises.{outcome}
+use Rattle.rules.specs.declared.Look.{Look}
 use Rattle.rules.specs.declared.Settings.{Settings}
 use Rattle.rules.specs.declared.Answer.the-variants.{Done}
 use Rattle.laws.specs.Calls.{sheet-maps}
@@ -30,15 +30,14 @@ use Rattle.laws.specs.PlainSheet as Q
 use Rattle.laws.specs.Splice.{drop-take}
 use Rattle.plain.specs.Meaning.{Scanned, PlaceOf, step, placeIn}
 use Rattle.plain.specs.Meaning as M
-use Rattle.plain.specs.Laws.{block-end, scanned-place, scanned-read, step-raises}
-use Rattle.plain.specs.declared.Scan.{Scan}
+use Rattle.plain.specs.Laws.{block-end, scanned-place, scanned-read, scanned-sound, step-raises}
 use Rattle.plain.specs.declared.Found.{Found}
 use Rattle.plain.specs.declared.Found.the-variants.{At, Nowhere}
-use Rattle.sheet.specs.Meaning.{Levelled}
+use Rattle.sheet.specs.Meaning.{AtStage, Levelled}
 use Rattle.sheet.specs.Laws.{Stepped, one-raised}
 use Rattle.sheet.specs.LayoutLaws.{cells-are}
-use Rattle.sheet.specs.StageLaws.{AtStage, stage-sound, sound-stage, decode-at, dark-zero}
-use Rattle.sheet.specs.ZeroLaws.{cells-in, to-rules, from-rules}
+use Rattle.sheet.specs.StageLaws.{stage-sound, decode-at, dark-zero}
+use Rattle.sheet.specs.ZeroLaws.{cells-in, to-rules}
 use Rattle.sheet.specs.MoveLaws.{Stuck}
 
 -- ---- a block of the m blocks is a block of the sheet
@@ -62,11 +61,7 @@ front-store k c j b f h l =
 
 -- ---- the change at stage 0
 
-module _ (r : Settings) (p : StagedFacts r) (f : List ℕ) (v : Levelled r f) (a : AtStage r f nowhere) (c : ℕ) (e : c ≡ r .m * 2 ^ r .s) (s : Scan) (h : Scanned (r .k) (r .top) (r .m) (take c f) s) where
-  -- blocks that break the rules break them for the sheet
-  pub zero-broken : s .sound ≡ false → ¬ (Sound r f)
-  zero-broken t q = h .broken t (from-rules r p f v c e (sound-stage r p f nowhere a q))
-
+module _ (r : Settings) (p : StagedFacts r) (f : List ℕ) (v : Levelled r f) (a : AtStage r f nowhere) (c : ℕ) (e : c ≡ r .m * 2 ^ r .s) (s : Look) (h : Scanned (r .k) (r .top) (r .m) (take c f) s) where
   inside : r .m * r .k ≤ c
   inside = omega (arith, cells-are r p)
 
@@ -86,9 +81,14 @@ module _ (r : Settings) (p : StagedFacts r) (f : List ℕ) (v : Levelled r f) (a
       ∙ ap (fromStage0 (r .s) (r .m) (r .top) (take (r .m * 2 ^ r .s) f) (tabulate (2 ^ r .s) (after i (S.read (r .s) (r .m) (r .top) (stage0 (take (r .m * 2 ^ r .s) f))))))
       (sym (ap₂ (λ (k x : ℕ). P.change k (r .top) (r .m) i (take x f)) (sym (p .bits)) e) ∙ z)
 
-  module _ (t : s .sound ≡ true) where
-    pub zero-sound : Sound r f
-    zero-sound = stage-sound r p f nowhere a (to-rules r p f v c e (h .sound t))
+  module _ (t : asCheck (s .answer) ≡ Pass) where
+    -- the m blocks keep the rules
+    ok : P.BlocksOk (r .k) (r .top) (r .m) (take c f)
+    ok = scanned-sound h t .0
+
+    -- and so does the sheet
+    zero-sound : Sound r f
+    zero-sound = stage-sound r p f nowhere a (to-rules r p f v c e ok)
 
     zero-place : (i : ℕ) → i < r .k → PlaceOf (r .k) (r .top) (r .m) i (take c f) (placeIn s i (r .m))
     zero-place i l = scanned-place (r .k) (r .top) (r .m) i (take c f) s two (p .top-least) (omega (arith, long, inside)) l h t
@@ -116,8 +116,8 @@ module _ (r : Settings) (p : StagedFacts r) (f : List ℕ) (v : Levelled r f) (a
     step-from i j w l (M.erase z) n = absurd (let y : _≡_ {A = ℕ} 0 1 = cc in omega arith)
 
     -- a place is a step of the bit's cycle in its block, and one level raised
-    pub zero-step : (i j w : ℕ) → i < r .k → placeIn s i (r .m) ≡ At j w → Stepped r f i j w
-    zero-step i j w l n = step-from i j w l (zero-place i l) n
+    pub zero-step : (i m j w : ℕ) → i < r .k → m ≡ r .m → placeIn s i m ≡ At j w → Stepped r f i j w
+    zero-step i m j w l q n = step-from i j w l (zero-place i l) (ap (placeIn s i) (sym q) ∙ n)
 
     -- no place: fewer than k blocks are live
     accepted : Q.Accepted (2 ^ r .s) (r .top) (r .m) (r .m * 2 ^ r .s) (take (r .m * 2 ^ r .s) f)
@@ -126,7 +126,7 @@ module _ (r : Settings) (p : StagedFacts r) (f : List ℕ) (v : Levelled r f) (a
         record {
           long = n;
           low = low-take (r .top) (r .m * 2 ^ r .s) f (v .low);
-          lawful = Q.blocks-lawful (2 ^ r .s) (r .top) (r .m) (take (r .m * 2 ^ r .s) f) (pow-pos (r .s)) (p .top-least) (to-rules r p f v c e (h .sound t));
+          lawful = Q.blocks-lawful (2 ^ r .s) (r .top) (r .m) (take (r .m * 2 ^ r .s) f) (pow-pos (r .s)) (p .top-least) (to-rules r p f v c e ok);
           spare = drop-of-length-le (take (r .m * 2 ^ r .s) f) {i = r .m * 2 ^ r .s} (omega arith) ∙ ap (λ (x : ℕ). replicate x 0) (sym (sub-self (r .m * 2 ^ r .s)));
         }
 
@@ -160,5 +160,5 @@ module _ (r : Settings) (p : StagedFacts r) (f : List ℕ) (v : Levelled r f) (a
     }
 
     -- no place among the m blocks: the change goes on to a later stage
-    pub zero-stuck : (i : ℕ) → i < r .k → placeIn s i (r .m) ≡ Nowhere → Stuck r f i (r .s - 1) (s .weights)
-    zero-stuck i l n = stuck-from i l (zero-place i l) n
+    pub zero-stuck : (i m : ℕ) → i < r .k → m ≡ r .m → placeIn s i m ≡ Nowhere → Stuck r f i (r .s - 1) (s .weights)
+    zero-stuck i m l q n = stuck-from i l (zero-place i l) (ap (placeIn s i) (sym q) ∙ n)

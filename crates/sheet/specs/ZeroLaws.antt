@@ -1,29 +1,31 @@
 -- Laws of a staged sheet at stage 0: the plain rules on the m blocks, as they are lent. Assumes nothing.
-use mathlib.Core.Path.{_≡_, sym, ap, ap₂, _∙_, subst₂}
+use mathlib.Core.Path.{_≡_, refl, sym, ap, ap₂, _∙_, subst₂}
 use mathlib.Core.List.{List}
 use Prim.Native.Nat.{ℕ, _-_, _*_, _^_, _≤_}
 use native.Mathlib.Omega.{arith}
 use lib.ListN.{length, take, drop, length-drop}
 use lib.Seq.{length-take-le, take-all}
 use Rattle.rules.specs.Search.{nowhere}
+use Rattle.rules.specs.SearchLaws.{pick-no, pick-yes}
 use Rattle.rules.specs.Cells.{Low}
-use Rattle.rules.specs.Plain.{BlocksOk}
+use Rattle.rules.specs.Plain.{BlocksOk, blocksOk?}
 use Rattle.rules.specs.Plain as P
 use Rattle.rules.specs.Staged as S
 use Rattle.rules.specs.Batches.{batchCells}
 use Rattle.rules.specs.AcceptLaws.{StagedFacts, staged-bits, staged-inside}
-use Rattle.rules.specs.Calls.{readBit}
+use Rattle.rules.specs.Calls.{asCheck, readBit}
+use Rattle.rules.specs.declared.Answer.the-variants.{BadSheet, Done}
+use Rattle.rules.specs.declared.Look.{Look}
 use Rattle.rules.specs.declared.Settings.{Settings}
 use Rattle.laws.specs.Lists.{low-take}
 use Rattle.staged.specs.Meaning.{stageLeft}
 use Rattle.staged.specs.Laws.{stage-rules}
 use Rattle.plain.specs.Meaning.{Scanned}
 use Rattle.plain.specs.Laws.{scanned-read}
-use Rattle.plain.specs.declared.Scan.{Scan}
-use Rattle.sheet.specs.Meaning.{Levelled, BitsOf}
+use Rattle.sheet.specs.Meaning.{AtStage, Levelled, LookOf, breaks, keeps, mBlocks, stageFound, zero}
 use Rattle.sheet.specs.Laws.{partFrom}
 use Rattle.sheet.specs.LayoutLaws.{cells-are, cells-most}
-use Rattle.sheet.specs.StageLaws.{stageFound, AtStage, stage-sound, sound-stage, read-stage}
+use Rattle.sheet.specs.StageLaws.{stage-sound, sound-stage, read-stage}
 
 module _ (r : Settings) (p : StagedFacts r) (f : List ℕ) (v : Levelled r f) where
   -- the m blocks lie in the sheet
@@ -43,16 +45,16 @@ module _ (r : Settings) (p : StagedFacts r) (f : List ℕ) (v : Levelled r f) wh
       ∙ stage-rules (r .s) (r .m) (r .w) f
 
   -- what the scan of the m blocks asks for
-  pub record ScanAsks (c : ℕ) : Type 0 where
-    pub bits : (2 ≤ r .k) × (r .k ≤ 64) × (1 ≤ r .top) × (r .m * r .k ≤ length (take c f)) × (length (take c f) ≤ 65536)
+  pub record ScanAsks (c m : ℕ) : Type 0 where
+    pub bits : (2 ≤ r .k) × (r .k ≤ 64) × (1 ≤ r .top) × (m * r .k ≤ length (take c f)) × (length (take c f) ≤ 65536)
     pub low : Low (r .top) (take c f)
 
   -- the m blocks have it
-  pub scan-asks : (c : ℕ) → c ≡ r .m * 2 ^ r .s → ScanAsks c
-  scan-asks c e =
+  pub scan-asks : (c m : ℕ) → c ≡ r .m * 2 ^ r .s → m ≡ r .m → ScanAsks c m
+  scan-asks c m e q =
       let l : length (take c f) ≡ c = length-take-le c f (cells-in c e) in
       record {
-        bits = (omega (arith, staged-bits r p .0), omega (arith, staged-bits r p .1), p .top-least, omega (arith, cells-are r p), omega (arith, cells-most r p));
+        bits = (omega (arith, staged-bits r p .0), omega (arith, staged-bits r p .1), p .top-least, omega (arith, cells-are r p, ap (λ (x : ℕ). x * r .k) q), omega (arith, cells-most r p));
         low = low-take (r .top) c f (v .low);
       }
 
@@ -70,9 +72,16 @@ module _ (r : Settings) (p : StagedFacts r) (f : List ℕ) (v : Levelled r f) wh
   zero-read a c e i = read-stage r p f nowhere a i ∙ ap₂ (λ (k : ℕ) (x : ℕ). P.read k (r .top) (r .m) (take x f) i) (p .bits) (sym e)
 
   -- a scan of the m blocks is a look at the whole sheet
-  pub zero-bits : AtStage r f nowhere → (c : ℕ) → c ≡ r .m * 2 ^ r .s → (s : Scan) → Scanned (r .k) (r .top) (r .m) (take c f) s → BitsOf r f (record { sound = s .sound; weights = s .weights })
-  zero-bits a c e s h = record {
-    sound = λ t. stage-sound r p f nowhere a (to-rules c e (h .sound t));
-    broken = λ t q. h .broken t (from-rules c e (sound-stage r p f nowhere a q));
-    values = λ t i l. zero-read a c e i ∙ scanned-read (r .k) (r .top) (r .m) i (take c f) s h t l;
-  }
+  pub zero-look : AtStage r f nowhere → (c m : ℕ) (b : Look) → c ≡ r .m * 2 ^ r .s → m ≡ r .m → Scanned (r .k) (r .top) m (take c f) b → LookOf r f b
+  zero-look a c m b e q g = go (blocksOk? (r .k) (r .top) (r .m) (mBlocks r f))
+    where
+      h : Scanned (r .k) (r .top) (r .m) (mBlocks r f) b
+      h = subst₂ (λ (x y : ℕ). Scanned (r .k) (r .top) x (take y f) b) q e g
+
+      go : Dec (BlocksOk (r .k) (r .top) (r .m) (mBlocks r f)) → LookOf r f b
+      go (yes o) =
+          let w : b .answer ≡ Done 0 = h .answer ∙ pick-yes (blocksOk? (r .k) (r .top) (r .m) (mBlocks r f)) (Done 0) BadSheet o in
+          keeps 0 w (stage-sound r p f nowhere a (to-rules (r .m * 2 ^ r .s) refl o))
+          (λ i l. zero-read a (r .m * 2 ^ r .s) refl i ∙ scanned-read (r .k) (r .top) (r .m) i (mBlocks r f) b h (ap asCheck w) l)
+          (zero p (record { passed = w; stage = a; blocks = h }))
+      go (no n) = breaks (h .answer ∙ pick-no (blocksOk? (r .k) (r .top) (r .m) (mBlocks r f)) (Done 0) BadSheet n) (λ q. n (from-rules (r .m * 2 ^ r .s) refl (sound-stage r p f nowhere a q)))

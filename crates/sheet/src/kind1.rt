@@ -1,12 +1,11 @@
-// Staged sheets: check 6 with the reading, and a change from check 6 on. Assumes accepted settings of kind 1 and checks 2 to 5 passed.
-use crate::Bits;
+// Staged sheets: check 6, a change at stage 0, and the move to a later stage. Assumes accepted settings of kind 1 and checks 2 to 5 passed.
+use crate::layout::Sizes;
 use crate::layout::batch_at;
 use crate::layout::batch_cells;
 use crate::layout::block_cells;
 use crate::layout::parity_count;
 use crate::layout::parity_length;
 use crate::layout::spare_at;
-use crate::within::change_stage;
 use block::all_zero;
 use block::raise_block;
 use moving::move_to;
@@ -14,8 +13,8 @@ use plain::Found;
 use plain::place_of;
 use plain::scan_blocks;
 use rules::Answer;
+use rules::Look;
 use rules::Settings;
-use stage::StageScan;
 use stage::scan_stage;
 use staged::Later;
 use staged::Stage;
@@ -28,76 +27,75 @@ ghost use lib.ListN.{getD, take};
 ghost use Rattle.rules.specs.AcceptLaws.{StagedFacts};
 ghost use Rattle.rules.specs.Cells.{sum, tabulate};
 ghost use Rattle.rules.specs.Promises.{outcome};
-ghost use Rattle.rules.specs.Search.{nowhere, pick};
+ghost use Rattle.rules.specs.Search.{at, nowhere, pick};
 ghost use Rattle.rules.specs.Staged.{after};
 ghost use Rattle.staged.specs.Meaning.{asFound, asLater, laterLeft};
-ghost use Rattle.sheet.specs.Meaning.{Levelled, BitsOf, fromSheet};
+ghost use Rattle.sheet.specs.Meaning.{AtStage, Levelled, LookOf, SeenZero, Sized, fromSheet, stageFound};
 ghost use Rattle.sheet.specs.MoveLaws.{MoveFits, movedSheet, Stuck};
-ghost use Rattle.sheet.specs.ScanLaws.{ScannedAt};
-ghost use Rattle.sheet.specs.StageLaws.{stageFound, AtStage};
 
 // The stage: the highest batch with a cell above 0.
-fn stage_left(settings: Settings, sheet: &[u8]) -> Stage
-    requires { ⌜ StagedFacts settings × Levelled settings (now sheet) ⌝ }
+fn stage_left(settings: Settings, sizes: Sizes, sheet: &[u8]) -> Stage
+    requires { ⌜ StagedFacts settings × Levelled settings (now sheet) × Sized settings sizes ⌝ }
     ensures { λ r. ⌜ asFound r ≡ stageFound settings (now (sheet .entry)) ⌝ }
 {
-    let cells = block_cells(settings);
-    stage_of(&sheet[cells..], batch_cells(settings), settings.s - 1)
+    let cells = block_cells(settings, sizes);
+    stage_of(
+        &sheet[cells..],
+        batch_cells(settings, sizes),
+        settings.s - 1,
+    )
 }
 
-// Stage 0: the plain rules on the m blocks, and the reading.
-fn stage0_bits(settings: Settings, sheet: &[u8]) -> Bits
-    requires { ⌜ StagedFacts settings × Levelled settings (now sheet) × AtStage settings (now sheet) nowhere ⌝ }
-    ensures { λ b. ⌜ BitsOf settings (now (sheet .entry)) b ⌝ }
+// Stage 0: the plain rules on the m blocks.
+fn look_stage0(settings: Settings, sizes: Sizes, sheet: &[u8]) -> Look
+    requires { ⌜ StagedFacts settings × Levelled settings (now sheet) × AtStage settings (now sheet) nowhere × Sized settings sizes ⌝ }
+    ensures { λ r. ⌜ LookOf settings (now (sheet .entry)) r ⌝ }
 {
-    let cells = block_cells(settings);
-    let s = scan_blocks(&sheet[..cells], settings.k, settings.top as u8, settings.m);
-    let weights = s.weights;
-    Bits {
-        sound: s.sound,
-        weights,
-    }
-}
-
-// A scan of the stage with this many left.
-pub fn scan_at(settings: Settings, sheet: &[u8], left: usize) -> StageScan
-    requires { ⌜ StagedFacts settings × Levelled settings (now sheet) × (left < settings .s - 1) ⌝ }
-    ensures { λ r. ⌜ ScannedAt settings (now (sheet .entry)) left r ⌝ }
-{
-    let cells = block_cells(settings);
-    let at = batch_at(settings, left);
-    let end = at + batch_cells(settings);
-    let len = parity_length(left);
-    let count = parity_count(settings, left);
-    scan_stage(
+    let cells = block_cells(settings, sizes);
+    scan_blocks(
         &sheet[..cells],
-        &sheet[at..end],
+        settings.k,
+        settings.top as u8,
+        sizes.blocks,
+    )
+}
+
+// A stage from 1 up, with this many left: its parity blocks and its batch.
+fn look_stage(settings: Settings, sizes: Sizes, sheet: &[u8], left: usize) -> Look
+    requires { ⌜ StagedFacts settings × Levelled settings (now sheet) × AtStage settings (now sheet) (at left) × Sized settings sizes ⌝ }
+    ensures { λ r. ⌜ LookOf settings (now (sheet .entry)) r ⌝ }
+{
+    let cells = block_cells(settings, sizes);
+    let start = batch_at(settings, left);
+    let end = start + batch_cells(settings, sizes);
+    let len = parity_length(left);
+    let count = parity_count(settings, sizes, left);
+    scan_stage(
+        settings.s - 1 - left,
+        start,
+        &sheet[..cells],
+        &sheet[start..end],
         len,
         count,
-        settings.w,
+        sizes.width,
         settings.k,
         settings.top as u8,
     )
 }
 
-// Check 6 and the reading, at the sheet's stage.
-pub fn staged_bits(settings: Settings, sheet: &[u8]) -> Bits
-    requires { ⌜ StagedFacts settings × Levelled settings (now sheet) ⌝ }
-    ensures { λ b. ⌜ BitsOf settings (now (sheet .entry)) b ⌝ }
+// Check 6: the spare cells are 0, and the sheet keeps the rules of its stage.
+pub fn look_staged(settings: Settings, sizes: Sizes, sheet: &[u8]) -> Look
+    requires { ⌜ StagedFacts settings × Levelled settings (now sheet) × Sized settings sizes ⌝ }
+    ensures { λ r. ⌜ LookOf settings (now (sheet .entry)) r ⌝ }
 {
-    let a = spare_at(settings);
+    let a = spare_at(settings, sizes);
     if !all_zero(&sheet[a..]) {
-        return crate::no_bits();
+        return crate::no_look(Answer::BadSheet);
     }
-    let Stage::Left(left) = stage_left(settings, sheet) else {
-        return stage0_bits(settings, sheet);
+    let Stage::Left(left) = stage_left(settings, sizes, sheet) else {
+        return look_stage0(settings, sizes, sheet);
     };
-    let s = scan_at(settings, sheet, left);
-    let weights = s.weights;
-    Bits {
-        sound: s.sound,
-        weights,
-    }
+    look_stage(settings, sizes, sheet, left)
 }
 
 // The value of a bit once the named bit is changed.
@@ -125,13 +123,13 @@ fn values_after(weights: [usize; 64], k: usize, bit: usize) -> [usize; 64]
 }
 
 // The first later stage with room.
-fn later_left(settings: Settings, sheet: &[u8], left: usize) -> Later
-    requires { ⌜ StagedFacts settings × Levelled settings (now sheet) × (left ≤ settings .s - 1) ⌝ }
+fn later_left(settings: Settings, sizes: Sizes, sheet: &[u8], left: usize) -> Later
+    requires { ⌜ StagedFacts settings × Levelled settings (now sheet) × (left ≤ settings .s - 1) × Sized settings sizes ⌝ }
     ensures { λ r. ⌜ asLater r ≡ laterLeft (settings .s) (settings .m) (settings .top) left (take (settings .m * 2 ^ settings .s) (now (sheet .entry))) ⌝ }
 {
-    let cells = block_cells(settings);
+    let cells = block_cells(settings, sizes);
     let len = parity_length(left);
-    let count = parity_count(settings, left);
+    let count = parity_count(settings, sizes, left);
     later_stage(
         &sheet[..cells],
         left,
@@ -145,12 +143,13 @@ fn later_left(settings: Settings, sheet: &[u8], left: usize) -> Later
 // The move to the stage with this many left, with the values after the change; how many levels it raises.
 fn make_move(
     settings: Settings,
+    sizes: Sizes,
     sheet: &mut [u8],
     bit: usize,
     to: usize,
     weights: [usize; 64],
 ) -> usize
-    requires { ⌜ StagedFacts settings × Levelled settings (now sheet) × MoveFits settings (now sheet) to ⌝ }
+    requires { ⌜ StagedFacts settings × Levelled settings (now sheet) × MoveFits settings (now sheet) to × Sized settings sizes ⌝ }
     ensures { λ _. ⌜ now (sheet .exit) ≡ movedSheet settings (now (sheet .entry)) to (after bit (λ y. getD weights y 0 % 2)) ⌝ }
     ensures { λ r. ⌜ r + sum (now (sheet .entry)) ≡ sum (now (sheet .exit)) ⌝ }
 {
@@ -158,13 +157,13 @@ fn make_move(
     let values = values_after(weights, k, bit);
     let at = batch_at(settings, to);
     let len = parity_length(to);
-    let count = parity_count(settings, to);
+    let count = parity_count(settings, sizes, to);
     move_to(
         sheet,
         at,
         len,
         count,
-        settings.w,
+        sizes.width,
         k,
         settings.top as u8,
         values,
@@ -174,51 +173,36 @@ fn make_move(
 // On to a later stage: the move is the change; where no stage has room, Erase.
 pub fn move_on(
     settings: Settings,
+    sizes: Sizes,
     sheet: &mut [u8],
     bit: usize,
     left: usize,
     weights: [usize; 64],
 ) -> Answer
-    requires { ⌜ StagedFacts settings × Levelled settings (now sheet) × Stuck settings (now sheet) bit left weights ⌝ }
+    requires { ⌜ StagedFacts settings × Levelled settings (now sheet) × Stuck settings (now sheet) bit left weights × Sized settings sizes ⌝ }
     ensures { λ r. ⌜ outcome r (now (sheet .exit)) ≡ fromSheet settings (now (sheet .entry)) bit ⌝ }
 {
-    let Later::Left(to) = later_left(settings, sheet, left) else {
+    let Later::Left(to) = later_left(settings, sizes, sheet, left) else {
         return Answer::Erase;
     };
-    Answer::Done(make_move(settings, sheet, bit, to, weights))
+    Answer::Done(make_move(settings, sizes, sheet, bit, to, weights))
 }
 
 // A change at stage 0: the next step among the m blocks, or on to a later stage.
-fn change_stage0(settings: Settings, sheet: &mut [u8], bit: usize) -> Answer
-    requires { ⌜ StagedFacts settings × Levelled settings (now sheet) × (bit < settings .k) × AtStage settings (now sheet) nowhere ⌝ }
+pub fn change_stage0(
+    settings: Settings,
+    sizes: Sizes,
+    sheet: &mut [u8],
+    bit: usize,
+    look: Look,
+) -> Answer
+    requires { ⌜ StagedFacts settings × Levelled settings (now sheet) × (bit < settings .k) × SeenZero settings (now sheet) look × Sized settings sizes ⌝ }
     ensures { λ r. ⌜ outcome r (now (sheet .exit)) ≡ fromSheet settings (now (sheet .entry)) bit ⌝ }
 {
-    let k = settings.k;
-    let top = settings.top as u8;
-    let cells = block_cells(settings);
-    let s = scan_blocks(&sheet[..cells], k, top, settings.m);
-    if !s.sound {
-        return Answer::BadSheet;
-    }
-    let weights = s.weights;
-    let Found::At(j, weight) = place_of(s, bit, settings.m) else {
-        return move_on(settings, sheet, bit, settings.s - 1, weights);
+    let Found::At(j, weight) = place_of(look, bit, sizes.blocks) else {
+        let weights = look.weights;
+        return move_on(settings, sizes, sheet, bit, settings.s - 1, weights);
     };
-    raise_block(sheet, k, top, j, bit, weight);
+    raise_block(sheet, settings.k, settings.top as u8, j, bit, weight);
     Answer::Done(1)
-}
-
-// Check 6, and the change at the sheet's stage.
-pub fn change_staged(settings: Settings, sheet: &mut [u8], bit: usize) -> Answer
-    requires { ⌜ StagedFacts settings × Levelled settings (now sheet) × (bit < settings .k) ⌝ }
-    ensures { λ r. ⌜ outcome r (now (sheet .exit)) ≡ fromSheet settings (now (sheet .entry)) bit ⌝ }
-{
-    let a = spare_at(settings);
-    if !all_zero(&sheet[a..]) {
-        return Answer::BadSheet;
-    }
-    let Stage::Left(left) = stage_left(settings, sheet) else {
-        return change_stage0(settings, sheet, bit);
-    };
-    change_stage(settings, sheet, bit, left)
 }

@@ -1,10 +1,28 @@
-// Where the parts of a staged sheet stand. Assumes accepted settings of kind 1; a stage is told by how many stages are left.
+// Where the parts of a sheet stand, from what the methods of its settings give. Assumes accepted settings of kind 1 but for the sizes; a stage is told by how many stages are left.
 use rules::Settings;
 ghost use mathlib.Core.Path.{_≡_};
 ghost use Prim.Native.Nat.{_+_, _-_, _*_, _^_, _≤_, _<_};
+ghost use Rattle.rules.specs.Accept.{Genuine};
 ghost use Rattle.rules.specs.AcceptLaws.{StagedFacts};
 ghost use Rattle.rules.specs.Batches.{batchCells, indexCells};
 ghost use Rattle.rules.specs.Staged.{parityLength, parityCount};
+ghost use Rattle.sheet.specs.Meaning.{Sized, sizesOf};
+
+// The number of blocks and the width of an index block, taken once for each call; 0 for a record that acceptance never gives.
+pub struct Sizes {
+    pub blocks: usize,
+    pub width: usize,
+}
+
+// The sizes of a sheet, by the methods of its settings.
+pub fn sizes_of(settings: Settings) -> Sizes
+    ensures { λ r. ⌜ r ≡ sizesOf settings ⌝ }
+{
+    Sizes {
+        blocks: settings.blocks(),
+        width: settings.width(),
+    }
+}
 
 // A power of two.
 fn power(e: usize) -> usize
@@ -15,35 +33,35 @@ fn power(e: usize) -> usize
 }
 
 // The cells of the m blocks.
-pub fn block_cells(settings: Settings) -> usize
-    requires { ⌜ StagedFacts settings ⌝ }
+pub fn block_cells(settings: Settings, sizes: Sizes) -> usize
+    requires { ⌜ StagedFacts settings × Sized settings sizes ⌝ }
     ensures { λ r. ⌜ r ≡ settings .m * 2 ^ settings .s ⌝ }
 {
-    settings.m * settings.k
+    sizes.blocks * settings.k
 }
 
 // The cells of one batch.
-pub fn batch_cells(settings: Settings) -> usize
-    requires { ⌜ StagedFacts settings ⌝ }
+pub fn batch_cells(settings: Settings, sizes: Sizes) -> usize
+    requires { ⌜ StagedFacts settings × Sized settings sizes ⌝ }
     ensures { λ r. ⌜ r ≡ batchCells (settings .s) (settings .w) ⌝ }
 {
-    2 * (settings.k - 1) * settings.w
+    2 * (settings.k - 1) * sizes.width
 }
 
 // The first spare cell.
-pub fn spare_at(settings: Settings) -> usize
-    requires { ⌜ StagedFacts settings ⌝ }
+pub fn spare_at(settings: Settings, sizes: Sizes) -> usize
+    requires { ⌜ StagedFacts settings × Sized settings sizes ⌝ }
     ensures { λ r. ⌜ r ≡ settings .m * 2 ^ settings .s + indexCells (settings .s) (settings .w) ⌝ }
 {
-    block_cells(settings) + (settings.s - 1) * batch_cells(settings)
+    block_cells(settings, sizes) + (settings.s - 1) * batch_cells(settings, sizes)
 }
 
 // The first cell of the batch of the stage with this many left.
 pub fn batch_at(settings: Settings, left: usize) -> usize
-    requires { ⌜ StagedFacts settings × (left < settings .s - 1) ⌝ }
+    requires { ⌜ StagedFacts settings × (left < settings .s - 1) × Genuine settings ⌝ }
     ensures { λ r. ⌜ r ≡ settings .m * 2 ^ settings .s + (settings .s - 2 - left) * batchCells (settings .s) (settings .w) ⌝ }
 {
-    block_cells(settings) + (settings.s - 2 - left) * batch_cells(settings)
+    settings.batch_start(settings.s - 1 - left)
 }
 
 // The cells of a parity block of that stage.
@@ -55,9 +73,9 @@ pub fn parity_length(left: usize) -> usize
 }
 
 // How many parity blocks that stage has.
-pub fn parity_count(settings: Settings, left: usize) -> usize
-    requires { ⌜ StagedFacts settings × (left ≤ settings .s - 1) ⌝ }
+pub fn parity_count(settings: Settings, sizes: Sizes, left: usize) -> usize
+    requires { ⌜ StagedFacts settings × (left ≤ settings .s - 1) × Sized settings sizes ⌝ }
     ensures { λ r. ⌜ r ≡ parityCount (settings .s) (settings .m) left ⌝ }
 {
-    settings.m * power(settings.s - 1 - left)
+    sizes.blocks * power(settings.s - 1 - left)
 }

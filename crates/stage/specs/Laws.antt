@@ -18,7 +18,7 @@ use Rattle.rules.specs.SearchLaws.{pick-no}
 use Rattle.rules.specs.Stage.{Absent, Entry, Names, closed, index, indexes, liveWeights}
 use Rattle.stage.specs.LiveLaws.{absent-append, indexes-append, live-block-append, live-block-in, live-block-last, names-free, names-new, open-entry-append, open-entry-last, weights-append}
 use Rattle.stage.specs.Meaning.{BatchFits, ClosedFrom, FirstAt, Home, Passed, begun, entryAt, has, hasNot, liveBlock, withFree}
-use Rattle.stage.specs.declared.StageScan.{StageScan}
+use Rattle.rules.specs.declared.Look.{Look}
 
 -- ---- the look for the next index block
 
@@ -109,9 +109,10 @@ module _ (W none u : ℕ) (bs : List (List ℕ)) (es : List Entry) (as-many : le
 -- ---- what the scan holds, with more blocks at the end
 
 -- nothing is passed at first
-pub passed-none : (k W none : ℕ) → Passed k W none [] [] (begun none)
-passed-none k W none = record {
-  sound = refl;
+pub passed-none : (stage cell k W none : ℕ) → Passed stage cell k W none [] [] (begun stage cell none)
+passed-none stage cell k W none = record {
+  answer = refl;
+  batch = refl;
   of-64 = (refl, refl, refl);
   as-many = refl;
   names = tt;
@@ -119,14 +120,15 @@ passed-none k W none = record {
   free = hasNot tt refl refl refl;
 }
 
-module _ (k W none : ℕ) (bs : List (List ℕ)) (es : List Entry) (s : StageScan) (g : Passed k W none bs es s) where
+module _ (stage cell k W none : ℕ) (bs : List (List ℕ)) (es : List Entry) (s : Look) (g : Passed stage cell k W none bs es s) where
   -- full ones change nothing
-  pub passed-full : (cs : List (List ℕ)) (fs : List Entry) → liveWeights W cs ≡ [] → indexes fs ≡ [] → Passed k W none (bs ++ cs) (es ++ fs) s
+  pub passed-full : (cs : List (List ℕ)) (fs : List Entry) → liveWeights W cs ≡ [] → indexes fs ≡ [] → Passed stage cell k W none (bs ++ cs) (es ++ fs) s
   passed-full cs fs c f =
       let ts : indexes (es ++ fs) ≡ indexes es = indexes-append es fs ∙ ap (λ (r : List ℕ). indexes es ++ r) f ∙ append-nil (indexes es) in
       let ws : liveWeights W (bs ++ cs) ≡ liveWeights W bs = weights-append W bs cs ∙ ap (λ (r : List ℕ). liveWeights W bs ++ r) c ∙ append-nil (liveWeights W bs) in
       record {
-        sound = g .sound;
+        answer = g .answer;
+        batch = g .batch;
         of-64 = g .of-64;
         as-many = ap length ts ∙ g .as-many ∙ sym (ap length ws);
         names = subst (Names k) (sym ts) (g .names);
@@ -149,9 +151,10 @@ module _ (k W none : ℕ) (bs : List (List ℕ)) (es : List Entry) (s : StageSca
     free-names = subst (Names k) (sym (indexes-append es (index 0 ∷ []))) (names-free k (indexes es) (g .names))
 
     -- a further free one
-    pub passed-free : ¬ Absent 0 (indexes es) → Passed k W none (bs ++ (b ∷ [])) (es ++ (index 0 ∷ [])) s
+    pub passed-free : ¬ Absent 0 (indexes es) → Passed stage cell k W none (bs ++ (b ∷ [])) (es ++ (index 0 ∷ [])) s
     passed-free a = record {
-      sound = g .sound;
+      answer = g .answer;
+      batch = g .batch;
       of-64 = g .of-64;
       as-many = one-more 0;
       names = free-names;
@@ -162,9 +165,10 @@ module _ (k W none : ℕ) (bs : List (List ℕ)) (es : List Entry) (s : StageSca
     module _ (place slot weight : ℕ) (p : place ≡ length bs) (o : slot ≡ length es) (v : weight ≡ sum b) where
       -- the first free one
       pub passed-first-free : Absent 0 (indexes es)
-          → Passed k W none (bs ++ (b ∷ [])) (es ++ (index 0 ∷ [])) (withFree s place slot weight)
+          → Passed stage cell k W none (bs ++ (b ∷ [])) (es ++ (index 0 ∷ [])) (withFree s place slot weight)
       passed-first-free a = record {
-        sound = g .sound;
+        answer = g .answer;
+        batch = g .batch;
         of-64 = g .of-64;
         as-many = one-more 0;
         names = free-names;
@@ -185,10 +189,11 @@ module _ (k W none : ℕ) (bs : List (List ℕ)) (es : List Entry) (s : StageSca
 
       -- a bit's
       pub passed-own : (i : ℕ) → i < k → i < 64 → Absent (suc i) (indexes es)
-          → Passed k W none (bs ++ (b ∷ [])) (es ++ (index (suc i) ∷ []))
-          (record { sound = s .sound; places = set (s .places) i place; slots = set (s .slots) i slot; weights = set (s .weights) i weight; free = s .free; «free_slot» = s .«free_slot»; «free_weight» = s .«free_weight» })
+          → Passed stage cell k W none (bs ++ (b ∷ [])) (es ++ (index (suc i) ∷ []))
+          (record { answer = s .answer; batch = s .batch; places = set (s .places) i place; slots = set (s .slots) i slot; weights = set (s .weights) i weight; free = s .free; «free_slot» = s .«free_slot»; «free_weight» = s .«free_weight» })
       passed-own i h m a = record {
-        sound = g .sound;
+        answer = g .answer;
+        batch = g .batch;
         of-64 = (length-set (s .places) i place ∙ g .of-64 .0, length-set (s .slots) i slot ∙ g .of-64 .1, length-set (s .weights) i weight ∙ g .of-64 .2);
         as-many = one-more (suc i);
         names = subst (Names k) (sym (indexes-append es (index (suc i) ∷ []))) (names-new k i (indexes es) (g .names) h a);

@@ -1,6 +1,5 @@
 -- What the scan of one stage answers and asks, as definitions over the rules. Assumes nothing.
 -- bs are the stage's parity blocks and es what its index blocks say; W is the weight of a full parity block.
-use mathlib.Core.Bool.{true, false}
 use mathlib.Core.List.{List, [], _∷_, map}
 use mathlib.Core.Logic.{_≢_}
 use mathlib.Core.Path.{_≡_}
@@ -11,9 +10,10 @@ use Rattle.rules.specs.Batches.{digits, entryCells, entryOf}
 use Rattle.rules.specs.Cells.{Low, block, chop, join, store, sum}
 use Rattle.rules.specs.Search.{pick}
 use Rattle.rules.specs.Stage.{Absent, Entry, Names, StageOk, changeWithin, closed, index, indexes, liveWeights, raise, stay, beyond}
+use Rattle.rules.specs.declared.Answer.the-variants.{Done, BadSheet}
+use Rattle.rules.specs.declared.Look.{Look}
 use Rattle.stage.specs.declared.Live.{Live}
 use Rattle.stage.specs.declared.Live.the-variants.{At, Nowhere}
-use Rattle.stage.specs.declared.StageScan.{StageScan}
 use Rattle.stage.specs.declared.StagePlace.{StagePlace}
 use Rattle.stage.specs.declared.StagePlace.the-variants.{Own, Free, Beyond}
 
@@ -72,9 +72,10 @@ pub data Home (W none u : ℕ) (bs : List (List ℕ)) (es : List Entry) (place s
 
 -- ---- the scan
 
--- what a scan holds once it has passed bs and es and found them right: each bit's block, and the first free one
-pub record Passed (k W none : ℕ) (bs : List (List ℕ)) (es : List Entry) (s : StageScan) : Type 0 where
-  pub sound : s .sound ≡ true
+-- what a scan of a stage holds once it has passed bs and es and found them right: the stage and the first cell of its batch, each bit's block, and the first free one
+pub record Passed (stage cell k W none : ℕ) (bs : List (List ℕ)) (es : List Entry) (s : Look) : Type 0 where
+  pub answer : s .answer ≡ Done stage
+  pub batch : s .batch ≡ cell
   pub of-64 : (length (s .places) ≡ 64) × (length (s .slots) ≡ 64) × (length (s .weights) ≡ 64)
   pub as-many : length (indexes es) ≡ length (liveWeights W bs)
   pub names : Names k (indexes es)
@@ -82,32 +83,32 @@ pub record Passed (k W none : ℕ) (bs : List (List ℕ)) (es : List Entry) (s :
   pub free : Home W none 0 bs es (s .free) (s .«free_slot») (s .«free_weight»)
 
 -- a scan of nothing so far
-abbrev pub begun : ℕ → StageScan
-begun none = record { sound = true; places = replicate 64 none; slots = replicate 64 0; weights = replicate 64 0; free = none; «free_slot» = 0; «free_weight» = 0 }
+abbrev pub begun : ℕ → ℕ → ℕ → Look
+begun stage cell none = record { answer = Done stage; batch = cell; places = replicate 64 none; slots = replicate 64 0; weights = replicate 64 0; free = none; «free_slot» = 0; «free_weight» = 0 }
 
 -- the scan of a stage that breaks the rules
-abbrev pub broken : StageScan
-broken = record { sound = false; places = replicate 64 0; slots = replicate 64 0; weights = replicate 64 0; free = 0; «free_slot» = 0; «free_weight» = 0 }
+abbrev pub broken : Look
+broken = record { answer = BadSheet; batch = 0; places = replicate 64 0; slots = replicate 64 0; weights = replicate 64 0; free = 0; «free_slot» = 0; «free_weight» = 0 }
 
 -- a scan with its first free block: parity block j of weight v, with index block x
-abbrev pub withFree : StageScan → ℕ → ℕ → ℕ → StageScan
-withFree s j x v = record { sound = s .sound; places = s .places; slots = s .slots; weights = s .weights; free = j; «free_slot» = x; «free_weight» = v }
+abbrev pub withFree : Look → ℕ → ℕ → ℕ → Look
+withFree s j x v = record { answer = s .answer; batch = s .batch; places = s .places; slots = s .slots; weights = s .weights; free = j; «free_slot» = x; «free_weight» = v }
 
 -- a scan once its parity blocks are passed: no index block that isn't full may be left
-abbrev pub endedBy : StageScan → Live → StageScan
+abbrev pub endedBy : Look → Live → Look
 endedBy s (At x u) = broken
 endedBy s Nowhere = s
 
 -- where a scan stands that has found nothing wrong: the first j of none parity blocks and the first x of q index blocks are passed
-pub record ScanAt (k W none len : ℕ) (cells : List ℕ) (L w : ℕ) (batch : List ℕ) (q j x : ℕ) (s : StageScan) : Type 0 where
+pub record ScanAt (stage cell k W none len : ℕ) (cells : List ℕ) (L w : ℕ) (batch : List ℕ) (q j x : ℕ) (s : Look) : Type 0 where
   pub few : k ≤ 64
   pub in-cells : j ≤ none
   pub in-batch : x ≤ q
-  pub passed : Passed k W none (chop len j cells) (entries L w x batch) s
+  pub passed : Passed stage cell k W none (chop len j cells) (entries L w x batch) s
 
 -- a turn of the scan that has met parity block j, of weight v and not full, and index block x, of number u
-pub record Turn (k W none len : ℕ) (cells : List ℕ) (L w : ℕ) (batch : List ℕ) (q j x u v : ℕ) (s : StageScan) : Type 0 where
-  pub here : ScanAt k W none len cells L w batch q j x s
+pub record Turn (stage cell k W none len : ℕ) (cells : List ℕ) (L w : ℕ) (batch : List ℕ) (q j x u v : ℕ) (s : Look) : Type 0 where
+  pub here : ScanAt stage cell k W none len cells L w batch q j x s
   pub a-block : j < none
   pub an-index : x < q
   pub weight : v ≡ sum (block len cells j)
@@ -126,14 +127,14 @@ pub record StageFits (len count w k L : ℕ) (cells batch : List ℕ) : Type 0 w
   pub indexed : BatchFits w (2 * (k - 1)) L batch
 
 -- what it answers: where the stage keeps the rules, each bit's block and the first free one; else that it breaks them, and nothing more
-pub record StageScanned (k W : ℕ) (bs : List (List ℕ)) (es : List Entry) (s : StageScan) : Type 0 where
-  pub right : s .sound ≡ true → Passed k W (length bs) bs es s
-  pub wrong : s .sound ≡ false → (¬ StageOk k W bs es) × (s ≡ broken)
+pub data StageScanned (stage cell k W : ℕ) (bs : List (List ℕ)) (es : List Entry) (s : Look) : Type 0 where
+  right : Passed stage cell k W (length bs) bs es s → StageScanned stage cell k W bs es s
+  wrong : s ≡ broken → ¬ (StageOk k W bs es) → StageScanned stage cell k W bs es s
 
 -- ---- the place of a change
 
 -- the bit's own block, else the first free one, else a later stage; count stands for none
-unfoldable pub placeIn : StageScan → ℕ → ℕ → StagePlace
+unfoldable pub placeIn : Look → ℕ → ℕ → StagePlace
 placeIn s bit count =
     pick (decLt (getD (s .places) bit 0) count) (Own (getD (s .places) bit 0) (getD (s .slots) bit 0) (getD (s .weights) bit 0))
     (pick (decLt (s .free) count) (Free (s .free) (s .«free_slot») (s .«free_weight»)) Beyond)

@@ -1,5 +1,4 @@
 -- What follows from the scan of a stage: its check, the reading of each bit, the place of a change, and that no second scan fits. Assumes nothing.
-use mathlib.Core.Bool.{true}
 use mathlib.Core.List.{List, [], _∷_, map}
 use mathlib.Core.Path.{_≡_, _∙_, ap, ap₂, refl, subst, sym}
 use Prim.Native.Nat.{ℕ, zero, suc, _-_, _*_, _%_, _≤_, _<_}
@@ -20,15 +19,15 @@ use Rattle.rules.specs.SearchLaws.{first-eq, hit, miss, pick-elim}
 use Rattle.rules.specs.Stage.{Absent, Entry, StageOk, beyond, changeWithin, chosen, closed, index, indexes, liveWeights, raise, stay, valueOf}
 use Rattle.stage.specs.Laws.{home-nowhere}
 use Rattle.stage.specs.LiveLaws.{live-block-in, live-block-open, live-block-sum, open-entry-in, open-entry-is, raise-live-set, set-live-set}
-use Rattle.stage.specs.Meaning.{FirstAt, Home, Passed, PlaceWithin, StageFits, StageScanned, at-free, at-none, at-own, entries, has, hasNot, liveBlock, openEntry, placeIn}
+use Rattle.stage.specs.Meaning.{FirstAt, Home, Passed, PlaceWithin, StageFits, at-free, at-none, at-own, entries, has, hasNot, liveBlock, openEntry, placeIn}
 use Rattle.stage.specs.declared.StagePlace.the-variants.{Own, Free}
-use Rattle.stage.specs.declared.StageScan.{StageScan}
+use Rattle.rules.specs.declared.Look.{Look}
 
 -- ---- the check and the reading
 
--- a sound scan's stage keeps the rules
-pub stage-ok : {k W : ℕ} {bs : List (List ℕ)} {es : List Entry} {s : StageScan} → StageScanned k W bs es s → s .sound ≡ true → StageOk k W bs es
-stage-ok g t = (g .right t .as-many, g .right t .names)
+-- a stage that a scan has passed keeps the rules
+pub stage-ok : {stage cell k W : ℕ} {bs : List (List ℕ)} {es : List Entry} {s : Look} → Passed stage cell k W (length bs) bs es s → StageOk k W bs es
+stage-ok p = (p .as-many, p .names)
 
 -- the block that the scan holds for a bit gives its value
 home-read : (W none i : ℕ) (bs : List (List ℕ)) (es : List Entry) (p o v : ℕ) → length (indexes es) ≡ length (liveWeights W bs) → Home W none (suc i) bs es p o v → valueOf W bs es i ≡ v % 2
@@ -36,8 +35,8 @@ home-read W none i bs es p o v m (has t f a b c) = ap (λ (x : ℕ). x % 2) (wei
 home-read W none i bs es p o v m (hasNot n a b c) = ap (λ (x : ℕ). x % 2) (weight-none (suc i) (indexes es) (liveWeights W bs) n ∙ sym c)
 
 -- each bit reads as the rules say
-pub stage-read : {k W : ℕ} {bs : List (List ℕ)} {es : List Entry} {s : StageScan} → StageScanned k W bs es s → s .sound ≡ true → (i : ℕ) → i < 64 → valueOf W bs es i ≡ getD (s .weights) i 0 % 2
-stage-read {W = W} {bs} {es} g t i l = home-read W (length bs) i bs es _ _ _ (g .right t .as-many) (g .right t .homes i l)
+pub stage-read : {stage cell k W : ℕ} {bs : List (List ℕ)} {es : List Entry} {s : Look} → Passed stage cell k W (length bs) bs es s → (i : ℕ) → i < 64 → valueOf W bs es i ≡ getD (s .weights) i 0 % 2
+stage-read {W = W} {bs} {es} p i l = home-read W (length bs) i bs es _ _ _ (p .as-many) (p .homes i l)
 
 -- ---- the change, by ranks
 
@@ -183,15 +182,14 @@ module _ (len count w k L : ℕ) (cells batch : List ℕ) (f : StageFits len cou
   free-home i place slot weight a (hasNot n p o v) h = absurd (omega (arith, length-chop len count cells))
 
 -- the scan's place for a bit is where the rules make the change
-pub stage-place : {len count w k L : ℕ} {cells batch : List ℕ} {s : StageScan} → StageFits len count w k L cells batch
-    → StageScanned k (len * L) (chop len count cells) (entries L w (2 * (k - 1)) batch) s → s .sound ≡ true
+pub stage-place : {stage cell len count w k L : ℕ} {cells batch : List ℕ} {s : Look} → StageFits len count w k L cells batch
+    → Passed stage cell k (len * L) (length (chop len count cells)) (chop len count cells) (entries L w (2 * (k - 1)) batch) s
     → (i : ℕ) → i < k → PlaceWithin len count w k L i cells batch (placeIn s i count)
 unfolding placeIn
-stage-place {len} {count} {w} {k} {L} {cells} {batch} {s} f g t i h =
+stage-place {len = len} {count} {w} {k} {L} {cells} {batch} {s} f r i h =
     let W : ℕ = len * L in
     let bs : List (List ℕ) = chop len count cells in
     let es : List Entry = entries L w (2 * (k - 1)) batch in
-    let r : Passed k W (length bs) bs es s = g .right t in
     let c : length bs ≡ count = length-chop len count cells in
     pick-elim (PlaceWithin len count w k L i cells batch) (decLt (getD (s .places) i 0) count) _ _
     (λ l. own-home len count w k L cells batch f (r .as-many) i _ _ _ (r .homes i (omega (arith, f .few))) l)

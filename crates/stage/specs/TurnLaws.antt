@@ -1,5 +1,4 @@
 -- Laws of the turns of the scan of one stage, on cells: what a turn does, how a stage breaks the rules, and what the scan answers. Assumes nothing.
-use mathlib.Core.Bool.{true, false}
 use mathlib.Core.List.{List, [], _∷_, _++_, append-assoc, append-nil, map}
 use mathlib.Core.Logic.{_≢_}
 use mathlib.Core.Path.{_≡_, _∙_, ap, refl, subst, sym}
@@ -14,15 +13,15 @@ use Rattle.laws.specs.Parts.{chop-add, map-append}
 use Rattle.rules.specs.Batches.{entryOf}
 use Rattle.rules.specs.Cells.{Low, block, chop, sum}
 use Rattle.rules.specs.SearchLaws.{pick-yes}
-use Rattle.rules.specs.Stage.{Entry, Names, StageOk, closed, index, indexes, liveWeights}
+use Rattle.rules.specs.Stage.{Entry, Names, closed, index, indexes, liveWeights}
 use Rattle.block.specs.Meaning.{RunFrom}
 use Rattle.block.specs.RunLaws.{past-full}
 use Rattle.stage.specs.Laws.{home-nowhere, home-there, passed-first-free, passed-free, passed-full, passed-none, passed-own}
 use Rattle.stage.specs.LiveLaws.{indexes-append, names-at, names-once, weights-append}
-use Rattle.stage.specs.Meaning.{ClosedFrom, NextIndex, Passed, ScanAt, StageScanned, Turn, begun, broken, endedBy, entries, entryAt, next-at, next-nowhere, withFree}
+use Rattle.stage.specs.Meaning.{ClosedFrom, NextIndex, Passed, ScanAt, StageScanned, Turn, begun, right, wrong, broken, endedBy, entries, entryAt, next-at, next-nowhere, withFree}
 use Rattle.stage.specs.declared.Live.{Live}
 use Rattle.stage.specs.declared.Live.the-variants.{At, Nowhere}
-use Rattle.stage.specs.declared.StageScan.{StageScan}
+use Rattle.rules.specs.declared.Look.{Look}
 
 -- ---- one more block
 
@@ -70,24 +69,24 @@ module _ (L w : ℕ) (batch : List ℕ) where
       ∙ ap (λ (r : List ℕ). r ++ indexes fs) (indexes-append es (index u ∷ []))
       ∙ append-assoc (indexes es) (u ∷ []) (indexes fs)
 
-module _ (k W none : ℕ) where
+module _ (stage cell k W none : ℕ) where
   -- a full parity block is passed
-  block-passed : (len j : ℕ) (cells : List ℕ) (es : List Entry) (s : StageScan) → Passed k W none (chop len j cells) es s → sum (block len cells j) ≡ W → Passed k W none (chop len (j + 1) cells) es s
+  block-passed : (len j : ℕ) (cells : List ℕ) (es : List Entry) (s : Look) → Passed stage cell k W none (chop len j cells) es s → sum (block len cells j) ≡ W → Passed stage cell k W none (chop len (j + 1) cells) es s
   block-passed len j cells es s g e =
-      subst (λ (bs : List (List ℕ)). Passed k W none bs es s) (sym (blocks-more len j cells))
-      (subst (λ (fs : List Entry). Passed k W none (chop len j cells ++ (block len cells j ∷ [])) fs s) (append-nil es)
-      (passed-full k W none (chop len j cells) es s g (block len cells j ∷ []) [] (pick-yes (ℕ-discrete (sum (block len cells j)) W) _ _ e) refl))
+      subst (λ (bs : List (List ℕ)). Passed stage cell k W none bs es s) (sym (blocks-more len j cells))
+      (subst (λ (fs : List Entry). Passed stage cell k W none (chop len j cells ++ (block len cells j ∷ [])) fs s) (append-nil es)
+      (passed-full stage cell k W none (chop len j cells) es s g (block len cells j ∷ []) [] (pick-yes (ℕ-discrete (sum (block len cells j)) W) _ _ e) refl))
 
   -- a full index block is passed
-  entry-passed : (L w : ℕ) (batch : List ℕ) (bs : List (List ℕ)) (s : StageScan) (x : ℕ) → Passed k W none bs (entries L w x batch) s → entryAt L w batch x ≡ closed → Passed k W none bs (entries L w (x + 1) batch) s
+  entry-passed : (L w : ℕ) (batch : List ℕ) (bs : List (List ℕ)) (s : Look) (x : ℕ) → Passed stage cell k W none bs (entries L w x batch) s → entryAt L w batch x ≡ closed → Passed stage cell k W none bs (entries L w (x + 1) batch) s
   entry-passed L w batch bs s x g e =
-      subst (λ (es : List Entry). Passed k W none bs es s) (sym (entries-more L w batch x))
-      (subst (λ (cs : List (List ℕ)). Passed k W none cs (entries L w x batch ++ (entryAt L w batch x ∷ [])) s) (append-nil bs)
-      (passed-full k W none bs (entries L w x batch) s g [] (entryAt L w batch x ∷ []) refl (ap (λ (y : Entry). indexes (y ∷ [])) e)))
+      subst (λ (es : List Entry). Passed stage cell k W none bs es s) (sym (entries-more L w batch x))
+      (subst (λ (cs : List (List ℕ)). Passed stage cell k W none cs (entries L w x batch ++ (entryAt L w batch x ∷ [])) s) (append-nil bs)
+      (passed-full stage cell k W none bs (entries L w x batch) s g [] (entryAt L w batch x ∷ []) refl (ap (λ (y : Entry). indexes (y ∷ [])) e)))
 
   -- full index blocks are passed
-  entries-passed : (L w : ℕ) (batch : List ℕ) (bs : List (List ℕ)) (s : StageScan) (x y : ℕ) → x ≤ y → ClosedFrom L w batch x y → Passed k W none bs (entries L w x batch) s → Passed k W none bs (entries L w y batch) s
-  entries-passed L w batch bs s x y h c g = run-keeps (λ n. Passed k W none bs (entries L w n batch) s) x y h (λ z a b p. entry-passed L w batch bs s z p (c z a b)) g
+  entries-passed : (L w : ℕ) (batch : List ℕ) (bs : List (List ℕ)) (s : Look) (x y : ℕ) → x ≤ y → ClosedFrom L w batch x y → Passed stage cell k W none bs (entries L w x batch) s → Passed stage cell k W none bs (entries L w y batch) s
+  entries-passed L w batch bs s x y h c g = run-keeps (λ n. Passed stage cell k W none bs (entries L w n batch) s) x y h (λ z a b p. entry-passed L w batch bs s z p (c z a b)) g
 
 -- ---- the index block found
 
@@ -111,79 +110,69 @@ module _ {L w : ℕ} {batch : List ℕ} {q from : ℕ} where
 -- ---- what the scan answers
 
 -- a scan that has passed all of them
-scanned-right : (k W count : ℕ) (bs : List (List ℕ)) (es : List Entry) (s : StageScan) → length bs ≡ count → Passed k W count bs es s → StageScanned k W bs es s
-scanned-right k W count bs es s e g = record {
-  right = λ t. subst (λ (n : ℕ). Passed k W n bs es s) (sym e) g;
-  wrong = λ f. let t : s .sound ≡ true = g .sound in let z : _≡_ {A = ℕ} 0 1 = cc in absurd (omega arith);
-}
-
--- the scan of a stage that breaks the rules
-scanned-wrong : {k W : ℕ} {bs : List (List ℕ)} {es : List Entry} {s : StageScan} → s ≡ broken → ¬ StageOk k W bs es → StageScanned k W bs es s
-scanned-wrong {s = s} e n = record {
-  right = λ t. let f : s .sound ≡ false = ap (λ (r : StageScan). r .sound) e in let z : _≡_ {A = ℕ} 0 1 = cc in absurd (omega arith);
-  wrong = λ f. (n, e);
-}
+scanned-right : {stage cell k W count : ℕ} {bs : List (List ℕ)} {es : List Entry} {s : Look} → length bs ≡ count → Passed stage cell k W count bs es s → StageScanned stage cell k W bs es s
+scanned-right {stage} {cell} {k} {W} {bs = bs} {es} {s} e g = right (subst (λ (n : ℕ). Passed stage cell k W n bs es s) (sym e) g)
 
 -- ---- turns
 
 -- a scan begins with nothing passed
-pub scan-begun : {k W none len : ℕ} {cells : List ℕ} {L w : ℕ} {batch : List ℕ} {q : ℕ} → k ≤ 64 → ScanAt k W none len cells L w batch q 0 0 (begun none)
-scan-begun {k} {W} {none} h = record { few = h; in-cells = omega arith; in-batch = omega arith; passed = passed-none k W none }
+pub scan-begun : {stage cell k W none len : ℕ} {cells : List ℕ} {L w : ℕ} {batch : List ℕ} {q : ℕ} → k ≤ 64 → ScanAt stage cell k W none len cells L w batch q 0 0 (begun stage cell none)
+scan-begun {stage} {cell} {k} {W} {none} h = record { few = h; in-cells = omega arith; in-batch = omega arith; passed = passed-none stage cell k W none }
 
-module _ {k W none len : ℕ} {cells : List ℕ} {L w : ℕ} {batch : List ℕ} {q j x : ℕ} {s : StageScan} (h : ScanAt k W none len cells L w batch q j x s) where
+module _ {stage cell k W none len : ℕ} {cells : List ℕ} {L w : ℕ} {batch : List ℕ} {q j x : ℕ} {s : Look} (h : ScanAt stage cell k W none len cells L w batch q j x s) where
   -- it stands past full index blocks as well
-  moved : {y : ℕ} → x ≤ y → y ≤ q → ClosedFrom L w batch x y → ScanAt k W none len cells L w batch q j y s
-  moved {y} a b c = record { few = h .few; in-cells = h .in-cells; in-batch = b; passed = entries-passed k W none L w batch (chop len j cells) s x y a c (h .passed) }
+  moved : {y : ℕ} → x ≤ y → y ≤ q → ClosedFrom L w batch x y → ScanAt stage cell k W none len cells L w batch q j y s
+  moved {y} a b c = record { few = h .few; in-cells = h .in-cells; in-batch = b; passed = entries-passed stage cell k W none L w batch (chop len j cells) s x y a c (h .passed) }
 
   module _ {v : ℕ} (l : j < none) (m : v ≡ sum (block len cells j)) where
     -- a full parity block is passed
-    pub turn-full : v ≡ W → ScanAt k W none len cells L w batch q (j + 1) x s
-    turn-full e = record { few = h .few; in-cells = omega arith; in-batch = h .in-batch; passed = block-passed k W none len j cells (entries L w x batch) s (h .passed) (sym m ∙ e) }
+    pub turn-full : v ≡ W → ScanAt stage cell k W none len cells L w batch q (j + 1) x s
+    turn-full e = record { few = h .few; in-cells = omega arith; in-batch = h .in-batch; passed = block-passed stage cell k W none len j cells (entries L w x batch) s (h .passed) (sym m ∙ e) }
 
     module _ {r : Live} (n : v ≢ W) (f : NextIndex L w batch q x r) where
       -- for one that isn't, the next index block is taken up
-      pub turn-begun : (y u : ℕ) → r ≡ At y u → Turn k W none len cells L w batch q j y u v s
+      pub turn-begun : (y u : ℕ) → r ≡ At y u → Turn stage cell k W none len cells L w batch q j y u v s
       turn-begun y u e =
           let o : (x ≤ y) × (y < q) × ClosedFrom L w batch x y × (entryAt L w batch y ≡ index u) = found f e in
           record { here = moved (o .0) (omega arith) (o .2); a-block = l; an-index = o .1; weight = m; live = n; entry = o .3 }
 
       -- and where there is none, fewer index blocks than parity blocks aren't full
-      pub too-few : {s′ : StageScan} → r ≡ Nowhere → s′ ≡ broken → StageScanned k W (chop len none cells) (entries L w q batch) s′
-      too-few e b = scanned-wrong b (λ ok.
+      pub too-few : {s′ : Look} → r ≡ Nowhere → s′ ≡ broken → StageScanned stage cell k W (chop len none cells) (entries L w q batch) s′
+      too-few e b = wrong b (λ ok.
           let a : length (indexes (entries L w q batch)) ≡ length (liveWeights W (chop len j cells)) = moved (h .in-batch) (omega arith) (found-none f e) .passed .as-many in
           omega (arith, ok .0, more-weights W len j none cells l (λ z. n (m ∙ z))))
 
   -- past the last parity block no index block may be left
-  pub scan-ended : {r : Live} {s′ : StageScan} → none ≤ j → NextIndex L w batch q x r → s′ ≡ endedBy s r → StageScanned k W (chop len none cells) (entries L w q batch) s′
-  scan-ended l (next-at y u a b c e) p = scanned-wrong p (λ ok.
+  pub scan-ended : {r : Live} {s′ : Look} → none ≤ j → NextIndex L w batch q x r → s′ ≡ endedBy s r → StageScanned stage cell k W (chop len none cells) (entries L w q batch) s′
+  scan-ended l (next-at y u a b c e) p = wrong p (λ ok.
       let n : j ≡ none = omega (arith, h .in-cells) in
       let m : length (indexes (entries L w y batch)) ≡ length (liveWeights W (chop len none cells)) = moved a (omega arith) c .passed .as-many ∙ ap (λ (i : ℕ). length (liveWeights W (chop len i cells))) n in
       let o : length (indexes (entries L w q batch)) ≡ length (indexes (entries L w y batch) ++ (u ∷ pastIt L w batch q y)) = ap length (among L w batch q y u b e) in
       omega (arith, ok .0, length-append (indexes (entries L w y batch)) (u ∷ pastIt L w batch q y)))
   scan-ended l (next-nowhere c) p =
       let n : j ≡ none = omega (arith, h .in-cells) in
-      subst (StageScanned k W (chop len none cells) (entries L w q batch)) (sym p)
-      (scanned-right k W none (chop len none cells) (entries L w q batch) s (length-chop len none cells)
-      (subst (λ (i : ℕ). Passed k W none (chop len i cells) (entries L w q batch) s) n (moved (h .in-batch) (omega arith) c .passed)))
+      subst (StageScanned stage cell k W (chop len none cells) (entries L w q batch)) (sym p)
+      (scanned-right (length-chop len none cells)
+      (subst (λ (i : ℕ). Passed stage cell k W none (chop len i cells) (entries L w q batch) s) n (moved (h .in-batch) (omega arith) c .passed)))
 
 -- full parity blocks are passed in runs
-pub turn-past : {k none len : ℕ} {cells : List ℕ} {L w : ℕ} {batch : List ℕ} {q j x : ℕ} {s : StageScan} → Low L cells → ScanAt k (len * L) none len cells L w batch q j x s
-    → {r : ℕ} → j ≤ r → r ≤ none → RunFrom len L cells j r → ScanAt k (len * L) none len cells L w batch q r x s
-turn-past {k} {none} {len} {cells} {L} {w} {batch} {q} {j} {x} {s} l h {r} a b f =
-    run-keeps (λ y. ScanAt k (len * L) none len cells L w batch q y x s) j r a
+pub turn-past : {stage cell k none len : ℕ} {cells : List ℕ} {L w : ℕ} {batch : List ℕ} {q j x : ℕ} {s : Look} → Low L cells → ScanAt stage cell k (len * L) none len cells L w batch q j x s
+    → {r : ℕ} → j ≤ r → r ≤ none → RunFrom len L cells j r → ScanAt stage cell k (len * L) none len cells L w batch q r x s
+turn-past {stage} {cell} {k} {none} {len} {cells} {L} {w} {batch} {q} {j} {x} {s} l h {r} a b f =
+    run-keeps (λ y. ScanAt stage cell k (len * L) none len cells L w batch q y x s) j r a
     (λ y c d g. turn-full g {v = sum (block len cells y)} (omega arith) refl (past-full len L j r cells l f y c d)) h
 
-module _ {k W none len : ℕ} {cells : List ℕ} {L w : ℕ} {batch : List ℕ} {q j x u v : ℕ} {s : StageScan} (t : Turn k W none len cells L w batch q j x u v s) where
+module _ {stage cell k W none len : ℕ} {cells : List ℕ} {L w : ℕ} {batch : List ℕ} {q j x u v : ℕ} {s : Look} (t : Turn stage cell k W none len cells L w batch q j x u v s) where
   -- the turn ends with both blocks passed
-  turned : (y : ℕ) (s′ : StageScan) → u ≡ y → Passed k W none (chop len j cells ++ (block len cells j ∷ [])) (entries L w x batch ++ (index y ∷ [])) s′
-      → ScanAt k W none len cells L w batch q (j + 1) (x + 1) s′
+  turned : (y : ℕ) (s′ : Look) → u ≡ y → Passed stage cell k W none (chop len j cells ++ (block len cells j ∷ [])) (entries L w x batch ++ (index y ∷ [])) s′
+      → ScanAt stage cell k W none len cells L w batch q (j + 1) (x + 1) s′
   turned y s′ z r = record {
     few = t .here .few;
     in-cells = omega (arith, t .a-block);
     in-batch = omega (arith, t .an-index);
     passed =
-        subst (λ (bs : List (List ℕ)). Passed k W none bs (entries L w (x + 1) batch) s′) (sym (blocks-more len j cells))
-        (subst (λ (es : List Entry). Passed k W none (chop len j cells ++ (block len cells j ∷ [])) es s′)
+        subst (λ (bs : List (List ℕ)). Passed stage cell k W none bs (entries L w (x + 1) batch) s′) (sym (blocks-more len j cells))
+        (subst (λ (es : List Entry). Passed stage cell k W none (chop len j cells ++ (block len cells j ∷ [])) es s′)
         (sym (entries-more L w batch x ∙ ap (λ (z : Entry). entries L w x batch ++ (z ∷ [])) (t .entry ∙ ap index z))) r);
   }
 
@@ -196,42 +185,42 @@ module _ {k W none len : ℕ} {cells : List ℕ} {L w : ℕ} {batch : List ℕ} 
   in-all = omega (arith, length-chop len j cells, t .a-block)
 
   -- a further free block
-  pub turn-free : u ≡ 0 → s .free ≢ none → ScanAt k W none len cells L w batch q (j + 1) (x + 1) s
+  pub turn-free : u ≡ 0 → s .free ≢ none → ScanAt stage cell k W none len cells L w batch q (j + 1) (x + 1) s
   turn-free z h =
-      let g : Passed k W none (chop len j cells) (entries L w x batch) s = t .here .passed in
-      turned 0 s z (passed-free k W none (chop len j cells) (entries L w x batch) s g (block len cells j) live-block
+      let g : Passed stage cell k W none (chop len j cells) (entries L w x batch) s = t .here .passed in
+      turned 0 s z (passed-free stage cell k W none (chop len j cells) (entries L w x batch) s g (block len cells j) live-block
       (home-there W none 0 (chop len j cells) (entries L w x batch) (g .as-many) in-all _ _ _ (g .free) h))
 
   -- the first free one
   pub turn-first-free : u ≡ 0 → s .free ≡ none
-      → ScanAt k W none len cells L w batch q (j + 1) (x + 1) (withFree s j x v)
+      → ScanAt stage cell k W none len cells L w batch q (j + 1) (x + 1) (withFree s j x v)
   turn-first-free z h =
-      let g : Passed k W none (chop len j cells) (entries L w x batch) s = t .here .passed in
-      turned 0 _ z (passed-first-free k W none (chop len j cells) (entries L w x batch) s g (block len cells j) live-block j x v
+      let g : Passed stage cell k W none (chop len j cells) (entries L w x batch) s = t .here .passed in
+      turned 0 _ z (passed-first-free stage cell k W none (chop len j cells) (entries L w x batch) s g (block len cells j) live-block j x v
       (sym (length-chop len j cells)) (sym (length-entries L w batch x)) (t .weight)
       (home-nowhere W none 0 (chop len j cells) (entries L w x batch) (g .as-many) in-all _ _ _ (g .free) (λ q. omega arith)))
 
   -- a bit's
   pub turn-own : (i : ℕ) → u ≡ suc i → i < k → ¬ (getD (s .places) i 0 < none)
-      → ScanAt k W none len cells L w batch q (j + 1) (x + 1)
-      (record { sound = s .sound; places = set (s .places) i j; slots = set (s .slots) i x; weights = set (s .weights) i v; free = s .free; «free_slot» = s .«free_slot»; «free_weight» = s .«free_weight» })
+      → ScanAt stage cell k W none len cells L w batch q (j + 1) (x + 1)
+      (record { answer = s .answer; batch = s .batch; places = set (s .places) i j; slots = set (s .slots) i x; weights = set (s .weights) i v; free = s .free; «free_slot» = s .«free_slot»; «free_weight» = s .«free_weight» })
   turn-own i z l a =
-      let g : Passed k W none (chop len j cells) (entries L w x batch) s = t .here .passed in
+      let g : Passed stage cell k W none (chop len j cells) (entries L w x batch) s = t .here .passed in
       let m : i < 64 = omega (arith, t .here .few) in
-      turned (suc i) _ z (passed-own k W none (chop len j cells) (entries L w x batch) s g (block len cells j) live-block j x v
+      turned (suc i) _ z (passed-own stage cell k W none (chop len j cells) (entries L w x batch) s g (block len cells j) live-block j x v
       (sym (length-chop len j cells)) (sym (length-entries L w batch x)) (t .weight) i l m
       (home-nowhere W none (suc i) (chop len j cells) (entries L w x batch) (g .as-many) in-all _ _ _ (g .homes i m) a))
 
   -- an index exceeds k
-  pub too-great : {s′ : StageScan} → k < u → s′ ≡ broken → StageScanned k W (chop len none cells) (entries L w q batch) s′
-  too-great l b = scanned-wrong b (λ ok.
+  pub too-great : {s′ : Look} → k < u → s′ ≡ broken → StageScanned stage cell k W (chop len none cells) (entries L w q batch) s′
+  too-great l b = wrong b (λ ok.
       omega (arith, names-at k u (indexes (entries L w x batch)) _ (subst (Names k) (among L w batch q x u (t .an-index) (t .entry)) (ok .1))))
 
   -- two are equal and not 0
-  pub twice : {s′ : StageScan} (i : ℕ) → u ≡ suc i → i < k → getD (s .places) i 0 < none → s′ ≡ broken → StageScanned k W (chop len none cells) (entries L w q batch) s′
-  twice i z l p b = scanned-wrong b (λ ok.
+  pub twice : {s′ : Look} (i : ℕ) → u ≡ suc i → i < k → getD (s .places) i 0 < none → s′ ≡ broken → StageScanned stage cell k W (chop len none cells) (entries L w q batch) s′
+  twice i z l p b = wrong b (λ ok.
       let r : List ℕ = pastIt L w batch q x in
-      let g : Passed k W none (chop len j cells) (entries L w x batch) s = t .here .passed in
+      let g : Passed stage cell k W none (chop len j cells) (entries L w x batch) s = t .here .passed in
       home-there W none (suc i) (chop len j cells) (entries L w x batch) (g .as-many) in-all _ _ _ (g .homes i (omega (arith, t .here .few))) (λ e. omega arith)
       (names-once k i (indexes (entries L w x batch)) r
       (subst (λ (y : ℕ). Names k (indexes (entries L w x batch) ++ (y ∷ r))) z (subst (Names k) (among L w batch q x u (t .an-index) (t .entry)) (ok .1)))))

@@ -1,6 +1,8 @@
 // One stage from 1 up: its check, every bit's block and the place of a change, in one pass over its parity blocks. Assumes nothing.
 use block::past_run;
 use block::run_blocks;
+use rules::Answer;
+use rules::Look;
 use staged::Index;
 ghost use mathlib.Core.Path.{_≡_};
 ghost use Prim.Native.Nat.{_+_, _-_, _*_, _≤_, _<_};
@@ -12,18 +14,6 @@ ghost use Rattle.stage.specs.Meaning.{entries, BatchFits, NextIndex, Sta
 pub enum Live {
     At(usize, usize),
     Nowhere,
-}
-
-// What a scan of a stage finds: whether the stage keeps the rules, and for each bit, and for the first free block,
-// the parity block, the index block and the weight.
-pub struct StageScan {
-    pub sound: bool,
-    pub places: [usize; 64],
-    pub slots: [usize; 64],
-    pub weights: [usize; 64],
-    pub free: usize,
-    pub free_slot: usize,
-    pub free_weight: usize,
 }
 
 // The place of a change: the bit's own block, the first free one, or a later stage; a block with its index block and its weight.
@@ -61,11 +51,12 @@ fn weight_of(cells: &[u8], len: usize, j: usize) -> usize
 }
 
 // A scan of nothing so far.
-fn begin(none: usize) -> StageScan
-    ensures { λ r. ⌜ r ≡ begun none ⌝ }
+fn begin(stage: usize, cell: usize, none: usize) -> Look
+    ensures { λ r. ⌜ r ≡ begun stage cell none ⌝ }
 {
-    StageScan {
-        sound: true,
+    Look {
+        answer: Answer::Done(stage),
+        batch: cell,
         places: [none; 64],
         slots: [0; 64],
         weights: [0; 64],
@@ -76,11 +67,12 @@ fn begin(none: usize) -> StageScan
 }
 
 // The scan of a stage that breaks the rules.
-fn unsound() -> StageScan
+fn unsound() -> Look
     ensures { λ r. ⌜ r ≡ broken ⌝ }
 {
-    StageScan {
-        sound: false,
+    Look {
+        answer: Answer::BadSheet,
+        batch: 0,
         places: [0; 64],
         slots: [0; 64],
         weights: [0; 64],
@@ -91,7 +83,7 @@ fn unsound() -> StageScan
 }
 
 // A scan with its first free block.
-fn with_free(s: StageScan, j: usize, slot: usize, v: usize) -> StageScan
+fn with_free(s: Look, j: usize, slot: usize, v: usize) -> Look
     ensures { λ r. ⌜ r ≡ withFree s j slot v ⌝ }
 {
     let mut r = s;
@@ -102,7 +94,7 @@ fn with_free(s: StageScan, j: usize, slot: usize, v: usize) -> StageScan
 }
 
 // A scan once its parity blocks are passed: no index block that isn't full may be left.
-fn ended(s: StageScan, left: Live) -> StageScan
+fn ended(s: Look, left: Live) -> Look
     ensures { λ r. ⌜ r ≡ endedBy s left ⌝ }
 {
     match left {
@@ -111,8 +103,10 @@ fn ended(s: StageScan, left: Live) -> StageScan
     }
 }
 
-// The check of a stage and every bit's block: the j-th parity block that isn't full belongs to the j-th index block that isn't full.
+// The check of a stage, whose batch begins at a cell of the sheet, and every bit's block: the j-th parity block that isn't full belongs to the j-th index block that isn't full.
 pub fn scan_stage(
+    stage: usize,
+    cell: usize,
     cells: &[u8],
     batch: &[u8],
     len: usize,
@@ -120,12 +114,12 @@ pub fn scan_stage(
     w: usize,
     k: usize,
     top: u8,
-) -> StageScan
+) -> Look
     requires { ⌜ StageFits len count w k top (now cells) (now batch) ⌝ }
-    ensures { λ r. ⌜ StageScanned k (len * top) (chop len count (now (cells .entry))) (entries top w (2 * (k - 1)) (now (batch .entry))) r ⌝ }
+    ensures { λ r. ⌜ StageScanned stage cell k (len * top) (chop len count (now (cells .entry))) (entries top w (2 * (k - 1)) (now (batch .entry))) r ⌝ }
 {
     let step = run_blocks(len);
-    let mut s = begin(count);
+    let mut s = begin(stage, cell, count);
     let mut next: usize = 0;
     let mut at: usize = 0;
     while at < count {
@@ -158,7 +152,7 @@ pub fn scan_stage(
 }
 
 // The place of a change of a bit within the stage; count stands for none.
-pub fn place_in(s: StageScan, bit: usize, count: usize) -> StagePlace
+pub fn place_in(s: Look, bit: usize, count: usize) -> StagePlace
     requires { ⌜ bit < 64 ⌝ }
     ensures { λ r. ⌜ r ≡ placeIn s bit count ⌝ }
 {

@@ -1,6 +1,7 @@
 -- Each operation adds its own tests.
-use mathlib.Core.Path.{sym, _∙_}
-use Rattle.laws.specs.Calls.{then-ends, then-goes}
+use mathlib.Core.Path.{sym, ap, _∙_}
+use Rattle.rules.specs.Calls.{asCheck}
+use Rattle.laws.specs.Calls.{ends-there, not-done, then-goes}
 use Rattle.records.specs.Laws.{use-one, use-two, use-three}
 use borrow.Author.Needs.{needs}
 use Rattle.records.proofs.check_use.Statement.{statement}
@@ -28,18 +29,16 @@ returns-2 c =
 check-unused-requires-2 : tie.Need-check-unused-requires-2
 check-unused-requires-2 c κs = search needs
 
-enum-known-answer : tie.Need-enum-known-answer
-enum-known-answer c = search needs
+enum-told : tie.Need-enum-told
+enum-told c = search needs
 
 returns-3 : tie.Need-returns-3
 returns-3 c =
-    let u = c .before .before .before in
+    let u = c .before in
     let b = u .before .before .before in
     let e = b .byte-at .ensures .0 in
-    sym (use-three _ _ (b .before .before .args .held) (b .before .before .pre .1) (λ q. u .before .before .if1 .left (e ∙ q)) (λ q. u .before .if2 .left (e ∙ q)) ∙ then-ends _ (sym (u .check-unused2 .ensures) ∙ c .before .answer .given .1))
-
-enum-told : tie.Need-enum-told
-enum-told c = search needs
+    ends-there (u .check-unused2 .result) _ (u .check-unused2 .ensures) (not-done _ (c .match .keys2))
+    ∙ sym (use-three _ _ (b .before .before .args .held) (b .before .before .pre .1) (λ q. u .before .before .if1 .left (e ∙ q)) (λ q. u .before .if2 .left (e ∙ q)))
 
 check-held-requires-2 : tie.Need-check-held-requires-2
 check-held-requires-2 c κs = search needs
@@ -49,7 +48,7 @@ returns-4 c =
     let u = c .before .before .before in
     let b = u .before .before .before in
     let e = b .byte-at .ensures .0 in
-    c .check-held2 .ensures ∙ sym (use-three _ _ (b .before .before .args .held) (b .before .before .pre .1) (λ q. u .before .before .if1 .left (e ∙ q)) (λ q. u .before .if2 .left (e ∙ q)) ∙ then-goes _ (sym (u .check-unused2 .ensures) ∙ c .before .enum-told .given .1))
+    c .check-held2 .ensures ∙ sym (use-three _ _ (b .before .before .args .held) (b .before .before .pre .1) (λ q. u .before .before .if1 .left (e ∙ q)) (λ q. u .before .if2 .left (e ∙ q)) ∙ then-goes _ (sym (u .check-unused2 .ensures) ∙ ap asCheck (c .before .enum-told .given .1)))
 
 pub check-use-spec : {M : Type 1} → statement M
 check-use-spec =
@@ -61,8 +60,7 @@ check-use-spec =
     check-held-requires
     returns-2
     check-unused-requires-2
-    enum-known-answer
-    returns-3
     enum-told
+    returns-3
     check-held-requires-2
     returns-4)

@@ -3,6 +3,8 @@ use mathlib.Core.Path.{sym, ap, _∙_}
 use Rattle.rules.specs.Records.{eraseStep, changeStep}
 use Rattle.rules.specs.declared.Settings.{Settings}
 use native.Mathlib.Omega.{arith}
+use Rattle.rules.specs.Calls.{asCheck}
+use Rattle.laws.specs.Calls.{not-done, refusal-told}
 use Rattle.records.specs.Laws.{record-first, record-form, work-one, work-two, work-three}
 use borrow.Author.Needs.{needs}
 use Rattle.records.proofs.obey.Statement.{statement}
@@ -11,26 +13,23 @@ use Rattle.records.proofs.obey.Tie as tie
 check-record-requires : tie.Need-check-record-requires
 check-record-requires c κs = search needs
 
-enum-known-answer : tie.Need-enum-known-answer
-enum-known-answer c = search needs
+enum-told : tie.Need-enum-told
+enum-told c = search needs
 
 returns : tie.Need-returns
 returns c =
-    let k = c .before .before .before in
-    sym (record-first _ _ _ (sym (k .check-record .ensures) ∙ c .before .answer .given .1))
-
-enum-told : tie.Need-enum-told
-enum-told c = search needs
+    let k = c .before in
+    sym (record-first _ _ _ (sym (k .check-record .ensures) ∙ refusal-told (k .check-record .result) (not-done _ (c .match .keys2))))
 
 byte-at-requires : tie.Need-byte-at-requires
 byte-at-requires c κs =
     let t = c in
-    omega (arith, record-form _ _ (sym (t .before .before .check-record .ensures) ∙ t .enum-told .given .1) .whole)
+    omega (arith, record-form _ _ (sym (t .before .before .check-record .ensures) ∙ ap asCheck (t .enum-told .given .1)) .whole)
 
 asked-for-requires : tie.Need-asked-for-requires
 asked-for-requires c κs =
     let t = c .before .before in
-    omega (arith, record-form _ _ (sym (t .before .before .check-record .ensures) ∙ t .enum-told .given .1) .whole)
+    omega (arith, record-form _ _ (sym (t .before .before .check-record .ensures) ∙ ap asCheck (t .enum-told .given .1)) .whole)
 
 obey-erase-requires : tie.Need-obey-erase-requires
 obey-erase-requires c κs = search needs
@@ -45,14 +44,14 @@ returns-2 c =
     let b = f .before .before in
     let t = b .before in
     let a = t .before .before .before .before .before .args in
-    let p = sym (t .before .before .check-record .ensures) ∙ t .enum-told .given .1 in
+    let p = sym (t .before .before .check-record .ensures) ∙ ap asCheck (t .enum-told .given .1) in
     e .obey-erase .ensures ∙ ap (λ (s : Settings). eraseStep s (a .held) (a .cells .now)) (f .asked-for .ensures)
     ∙ sym (record-first _ _ _ p ∙ work-one _ _ _ (sym (b .byte-at .ensures .0) ∙ f .before .if1 .taken))
 
 byte-at-requires-2 : tie.Need-byte-at-requires-2
 byte-at-requires-2 c κs =
     let t = c .before .before .before .before in
-    omega (arith, record-form _ _ (sym (t .before .before .check-record .ensures) ∙ t .enum-told .given .1) .whole)
+    omega (arith, record-form _ _ (sym (t .before .before .check-record .ensures) ∙ ap asCheck (t .enum-told .given .1)) .whole)
 
 obey-change-requires : tie.Need-obey-change-requires
 obey-change-requires c κs = search needs
@@ -68,7 +67,7 @@ returns-3 c =
     let b = g .before .before in
     let t = b .before in
     let a = t .before .before .before .before .before .args in
-    let p = sym (t .before .before .check-record .ensures) ∙ t .enum-told .given .1 in
+    let p = sym (t .before .before .check-record .ensures) ∙ ap asCheck (t .enum-told .given .1) in
     e .obey-change .ensures ∙ ap (changeStep (a .held) (a .cells .now)) (f .byte-at2 .ensures .0)
     ∙ sym (record-first _ _ _ p ∙ work-two _ _ _ (sym (b .byte-at .ensures .0) ∙ g .if2 .taken))
 
@@ -84,7 +83,7 @@ returns-4 c =
     let b = g .before .before in
     let t = b .before in
     let a = t .before .before .before .before .before .args in
-    let p = sym (t .before .before .check-record .ensures) ∙ t .enum-told .given .1 in
+    let p = sym (t .before .before .check-record .ensures) ∙ ap asCheck (t .enum-told .given .1) in
     let e = b .byte-at .ensures .0 in
     c .obey-read .ensures
     ∙ sym (record-first _ _ _ p ∙ work-three _ _ _ _ (record-form _ _ p .least) (λ q. g .before .if1 .left (e ∙ q)) (λ q. g .if2 .left (e ∙ q)))
@@ -94,9 +93,8 @@ obey-spec =
     tie.close
     (tie.spec
     check-record-requires
-    enum-known-answer
-    returns
     enum-told
+    returns
     byte-at-requires
     asked-for-requires
     obey-erase-requires

@@ -1,133 +1,120 @@
--- A change answers by the checks in number order, and then by its kind.
-use mathlib.Core.Path.{sym, ap, _∙_}
+-- A change answers by the checks in number order, and then by the sheet's kind and stage.
+use mathlib.Core.Path.{refl, _∙_}
 use native.Mathlib.Omega.{arith}
 use borrow.Author.Needs.{needs}
-use Rattle.rules.specs.AcceptLaws.{genuine-common, genuine-plain, genuine-staged}
-use Rattle.laws.specs.Calls.{change-first, size-passed, change-bit, change-level, change-sheet}
-use Rattle.block.specs.Meaning.{asFound}
-use Rattle.sheet.specs.Laws.{levelled}
+use Rattle.laws.specs.Calls.{not-done}
+use Rattle.sheet.specs.CallLaws.{change-bit, change-passed, change-refused, seen-is, seen-later, seen-plain, seen-zero, sized}
 use Rattle.sheet.proofs.change.Statement.{statement}
 use Rattle.sheet.proofs.change.Tie as tie
 
-check-size-requires : tie.Need-check-size-requires
-check-size-requires c κs = search needs
+sizes-of-requires : tie.Need-sizes-of-requires
+sizes-of-requires c κs = search needs
+
+look-at-requires : tie.Need-look-at-requires
+look-at-requires c κs = c .before .sizes-of .ensures
 
 enum-known-answer : tie.Need-enum-known-answer
 enum-known-answer c = search needs
 
-returns : tie.Need-returns
-returns c =
-    let b = c .before in
-    sym (change-first _ _ _ (sym (b .before .before .check-size .ensures) ∙ b .answer .given .1))
-
-enum-told : tie.Need-enum-told
-enum-told c = search needs
-
-returns-2 : tie.Need-returns-2
-returns-2 c =
-    let t = c .before .before in
-    let o = t .before .before .before .before in
-    sym (change-bit (o .args .settings) (o .args .sheet .now) (o .args .bit) (sym (t .before .before .check-size .ensures) ∙ t .enum-told .given .1) (λ h. omega arith))
-
-cast-first-above : tie.Need-cast-first-above
-cast-first-above c =
-    let e = c .before .before in
-    let t = e .before .before in
-    let o = t .before .before .before .before in
-    let p = sym (t .before .before .check-size .ensures) ∙ t .enum-told .given .1 in
-    omega (arith, genuine-common (o .args .settings) (size-passed (o .args .settings) (o .args .sheet .now) p .0) .top-most)
-
-first-above-requires : tie.Need-first-above-requires
-first-above-requires c κs = search needs
-
-enum-known-cell : tie.Need-enum-known-cell
-enum-known-cell c = search needs
-
 same-length : tie.Need-same-length
 same-length c = search needs
 
-returns-3 : tie.Need-returns-3
-returns-3 c =
-    let f = c .before .before .before in
-    let e = f .before .before .before in
-    let t = e .before .before in
-    let o = t .before .before .before .before in
-    let p = sym (t .before .before .check-size .ensures) ∙ t .enum-told .given .1 in
-    sym (change-level (o .args .settings) (o .args .sheet .now) (o .args .bit) p (e .if1 .left) _ (sym (f .first-above .ensures) ∙ ap asFound (c .before .cell .given .1)))
-
-enum-told-2 : tie.Need-enum-told-2
-enum-told-2 c = search needs
+returns : tie.Need-returns
+returns c = change-refused _ _ _ _ _ (c .before .look-at .ensures) refl (not-done _ (c .match .keys2))
 
 change-plain-requires : tie.Need-change-plain-requires
 change-plain-requires c κs =
-    let b = c .before in
-    let n = b .before .before in
-    let f = n .before .before in
-    let e = f .before .before .before in
-    let t = e .before .before in
-    let o = t .before .before .before .before in
-    let p = sym (t .before .before .check-size .ensures) ∙ t .enum-told .given .1 in
-    (genuine-plain _ (size-passed (o .args .settings) (o .args .sheet .now) p .0) (b .if2 .taken), levelled (o .args .settings) (o .args .sheet .now) p (sym (f .first-above .ensures) ∙ ap asFound (n .enum-told2 .given .1)), e .if1 .left)
+    let a = c .before .before .before .before in
+    let l = a .before .before in
+    let z = l .before .before in
+    let h = l .look-at .ensures in
+    let e = a .answer .given .1 in
+    let g = h .look _ e in
+    let s = seen-plain _ _ _ _ (seen-is _ _ _ _ (g .2) e .1) (c .before .if1 .taken) in
+    (s .0, g .1, change-bit _ _ _ _ _ h e, sized _ _ (z .sizes-of .ensures) (g .0), s .1)
 
 same-length-2 : tie.Need-same-length-2
 same-length-2 c = search needs
 
-returns-4 : tie.Need-returns-4
-returns-4 c =
-    let x = c .before .before in
-    let b = x .before .before in
-    let n = b .before .before in
-    let f = n .before .before in
-    let e = f .before .before .before in
-    let t = e .before .before in
-    let o = t .before .before .before .before in
-    let p = sym (t .before .before .check-size .ensures) ∙ t .enum-told .given .1 in
-    x .change-plain .ensures ∙ sym (change-sheet (o .args .settings) (o .args .sheet .now) (o .args .bit) p (e .if1 .left) (sym (f .first-above .ensures) ∙ ap asFound (n .enum-told2 .given .1)))
+returns-2 : tie.Need-returns-2
+returns-2 c =
+    let p = c .before .before in
+    let a = p .before .before .before .before .before in
+    p .change-plain .ensures ∙ change-passed _ _ _ _ _ (a .before .before .look-at .ensures) (a .answer .given .1)
 
-change-staged-requires : tie.Need-change-staged-requires
-change-staged-requires c κs =
-    let b = c .before in
-    let n = b .before .before in
-    let f = n .before .before in
-    let e = f .before .before .before in
-    let t = e .before .before in
-    let o = t .before .before .before .before in
-    let p = sym (t .before .before .check-size .ensures) ∙ t .enum-told .given .1 in
-    (genuine-staged _ (size-passed (o .args .settings) (o .args .sheet .now) p .0) (b .if2 .left), levelled (o .args .settings) (o .args .sheet .now) p (sym (f .first-above .ensures) ∙ ap asFound (n .enum-told2 .given .1)), e .if1 .left)
+change-stage0-requires : tie.Need-change-stage0-requires
+change-stage0-requires c κs =
+    let a = c .before .before .before .before .before in
+    let l = a .before .before in
+    let z = l .before .before in
+    let h = l .look-at .ensures in
+    let e = a .answer .given .1 in
+    let g = h .look _ e in
+    let s = seen-zero _ _ _ _ (seen-is _ _ _ _ (g .2) e .1) (c .before .before .if1 .left) (c .before .if2 .taken) in
+    (s .0, g .1, change-bit _ _ _ _ _ h e, s .1, sized _ _ (z .sizes-of .ensures) (g .0))
 
 same-length-3 : tie.Need-same-length-3
 same-length-3 c = search needs
 
-returns-5 : tie.Need-returns-5
-returns-5 c =
-    let x = c .before .before in
-    let b = x .before .before in
-    let n = b .before .before in
-    let f = n .before .before in
-    let e = f .before .before .before in
-    let t = e .before .before in
-    let o = t .before .before .before .before in
-    let p = sym (t .before .before .check-size .ensures) ∙ t .enum-told .given .1 in
-    x .change-staged .ensures ∙ sym (change-sheet (o .args .settings) (o .args .sheet .now) (o .args .bit) p (e .if1 .left) (sym (f .first-above .ensures) ∙ ap asFound (n .enum-told2 .given .1)))
+returns-3 : tie.Need-returns-3
+returns-3 c =
+    let p = c .before .before in
+    let a = p .before .before .before .before .before .before in
+    p .change-stage0 .ensures ∙ change-passed _ _ _ _ _ (a .before .before .look-at .ensures) (a .answer .given .1)
+
+sub-change-stage : tie.Need-sub-change-stage
+sub-change-stage c =
+    let a = c .before .before .before .before .before .before in
+    let l = a .before .before in
+    let e = a .answer .given .1 in
+    let s = seen-later _ _ _ _ (seen-is _ _ _ _ (l .look-at .ensures .look _ e .2) e .1) (c .before .before .before .if1 .left) (c .before .before .if2 .left) in
+    omega (arith, s .0 .stages-least)
+
+sub-change-stage-2 : tie.Need-sub-change-stage-2
+sub-change-stage-2 c =
+    let a = c .before .before .before .before .before .before in
+    let l = a .before .before in
+    let e = a .answer .given .1 in
+    let s = seen-later _ _ _ _ (seen-is _ _ _ _ (l .look-at .ensures .look _ e .2) e .1) (c .before .before .before .if1 .left) (c .before .before .if2 .left) in
+    omega (arith, s .2)
+
+change-stage-requires : tie.Need-change-stage-requires
+change-stage-requires c κs =
+    let a = c .before .before .before .before .before .before in
+    let l = a .before .before in
+    let z = l .before .before in
+    let h = l .look-at .ensures in
+    let e = a .answer .given .1 in
+    let g = h .look _ e in
+    let s = seen-later _ _ _ _ (seen-is _ _ _ _ (g .2) e .1) (c .before .before .before .if1 .left) (c .before .before .if2 .left) in
+    (s .0, g .1, change-bit _ _ _ _ _ h e, s .1, sized _ _ (z .sizes-of .ensures) (g .0))
+
+same-length-4 : tie.Need-same-length-4
+same-length-4 c = search needs
+
+returns-4 : tie.Need-returns-4
+returns-4 c =
+    let p = c .before .before in
+    let a = p .before .before .before .before .before .before .before in
+    p .change-stage .ensures ∙ change-passed _ _ _ _ _ (a .before .before .look-at .ensures) (a .answer .given .1)
 
 pub change-spec : {M : Type 1} → statement M
 change-spec =
     tie.close
     (tie.spec
-    check-size-requires
+    sizes-of-requires
+    look-at-requires
     enum-known-answer
-    returns
-    enum-told
-    returns-2
-    cast-first-above
-    first-above-requires
-    enum-known-cell
     same-length
-    returns-3
-    enum-told-2
+    returns
     change-plain-requires
     same-length-2
-    returns-4
-    change-staged-requires
+    returns-2
+    change-stage0-requires
     same-length-3
-    returns-5)
+    returns-3
+    sub-change-stage
+    sub-change-stage-2
+    change-stage-requires
+    same-length-4
+    returns-4)

@@ -1,29 +1,31 @@
--- Erase answers by checks 1 and 2, and then sets every cell to 0.
-use mathlib.Core.List.{List}
+-- Erase answers by checks 1 and 2, and then clears every cell.
 use mathlib.Core.Path.{sym, ap, ap₂, _∙_}
+use mathlib.Core.List.{List}
 use Prim.Native.Nat.{ℕ}
-use lib.ListN.{replicate}
 use borrow.Author.Needs.{needs}
-use Rattle.rules.specs.GuaranteeLaws.{promised-is}
+use lib.ListN.{replicate}
+use Rattle.rules.specs.Calls.{asCheck}
+use Rattle.rules.specs.GuaranteeLaws.{reported-is}
 use Rattle.rules.specs.Promises.{outcome}
 use Rattle.rules.specs.declared.Answer.the-variants.{Done}
-use Rattle.laws.specs.Calls.{erase-first, size-passed}
+use Rattle.laws.specs.Calls.{checked-holds, erase-checks, erase-first, not-done, refusal-told}
 use Rattle.sheet.proofs.erase.Statement.{statement}
 use Rattle.sheet.proofs.erase.Tie as tie
 
+blocks-requires : tie.Need-blocks-requires
+blocks-requires c κs = search needs
+
 check-size-requires : tie.Need-check-size-requires
-check-size-requires c κs = search needs
-
-enum-known-answer : tie.Need-enum-known-answer
-enum-known-answer c = search needs
-
-returns : tie.Need-returns
-returns c =
-    let b = c .before in
-    sym (erase-first _ _ (sym (b .before .before .check-size .ensures) ∙ b .answer .given .1))
+check-size-requires c κs = c .blocks2 .ensures
 
 enum-told : tie.Need-enum-told
 enum-told c = search needs
+
+returns : tie.Need-returns
+returns c =
+    let s = c .before in
+    let o = s .before .before .before in
+    sym (erase-first (o .args .settings) (o .args .sheet .now) (sym (s .check-size .ensures) ∙ refusal-told _ (not-done _ (c .match .keys2))))
 
 fill-requires : tie.Need-fill-requires
 fill-requires c κs = search needs
@@ -38,12 +40,22 @@ returns-2 : tie.Need-returns-2
 returns-2 c =
     let f = c .before .before .before in
     let t = f .before .before in
-    let p = sym (t .before .before .check-size .ensures) ∙ t .enum-told .given .1 in
-    let a = t .before .before .before .before .args in
-    let g = size-passed (a .settings) (a .sheet .now) p in
-    ap₂ (λ (v : ℕ) (ys : List ℕ). outcome (Done v) ys) (c .guarantee .ensures ∙ promised-is _ (g .0)) (f .fill .ensures ∙ ap (λ (n : ℕ). replicate n 0) (g .1))
-    ∙ sym (erase-first (a .settings) (a .sheet .now) p)
+    let s = t .before .before in
+    let o = s .before .before .before in
+    let p = sym (s .check-size .ensures) ∙ ap asCheck (t .enum-told .given .1) in
+    let g = checked-holds (erase-checks (o .args .settings) (o .args .sheet .now)) p in
+    ap₂ (λ (v : ℕ) (ys : List ℕ). outcome (Done v) ys) (c .guarantee .ensures ∙ reported-is _ _ (g .0)) (f .fill .ensures ∙ ap {B = List ℕ} (λ n. replicate n 0) (g .1))
+    ∙ sym (erase-first (o .args .settings) (o .args .sheet .now) p)
 
 pub erase-spec : {M : Type 1} → statement M
 erase-spec =
-    tie.close (tie.spec check-size-requires enum-known-answer returns enum-told fill-requires guarantee-requires same-length returns-2)
+    tie.close
+    (tie.spec
+    blocks-requires
+    check-size-requires
+    enum-told
+    returns
+    fill-requires
+    guarantee-requires
+    same-length
+    returns-2)

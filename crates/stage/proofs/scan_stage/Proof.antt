@@ -13,10 +13,10 @@ use Rattle.stage.proofs.scan_stage.Statement.{statement}
 use Rattle.stage.proofs.scan_stage.Tie as tie
 
 abbrev Inv-loop : tie.InvT-loop
-Inv-loop cells batch len count w k top step s₀ next₀ at₀ s next at = ScanAt k (len * top) count len cells top w batch (2 * (k - 1)) at next s
+Inv-loop stage cell cells batch len count w k top step s₀ next₀ at₀ s next at = ScanAt stage cell k (len * top) count len cells top w batch (2 * (k - 1)) at next s
 
 abbrev μ-loop : tie.MeasureT-loop
-μ-loop cells batch len count w k top step s₀ next₀ at₀ s next at = count - at
+μ-loop stage cell cells batch len count w k top step s₀ next₀ at₀ s next at = count - at
 
 run-blocks-requires : tie.Need-run-blocks-requires Inv-loop μ-loop
 run-blocks-requires c κs = search needs
@@ -85,7 +85,7 @@ turn : (c : tie.After-known-told Inv-loop μ-loop) →
     let v = f .before .before in
     let l = v .before .before in
     let a = l .before .before .before .before .before .args in
-    Turn (a .k) (a .len * a .top) (a .count) (a .len) (a .cells .now) (a .top) (a .w) (a .batch .now) (2 * (a .k - 1)) (l .loop .at) (c .before .slot .given .0 .0) (c .before .slot .given .0 .1 .0) (v .weight-of .result) (l .loop .s)
+    Turn (a .stage) (a .cell) (a .k) (a .len * a .top) (a .count) (a .len) (a .cells .now) (a .top) (a .w) (a .batch .now) (2 * (a .k - 1)) (l .loop .at) (c .before .slot .given .0 .0) (c .before .slot .given .0 .1 .0) (v .weight-of .result) (l .loop .s)
 turn c =
     let f = c .before .before .before in
     let v = f .before .before in

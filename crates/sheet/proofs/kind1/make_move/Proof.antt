@@ -27,7 +27,7 @@ move-to-requires c κs =
     let n = c .before .before in
     let a = n .before .before in
     let o = a .before .before .before in
-    move-roomy _ (o .pre .0) _ (o .pre .1) _ _ _ _ (o .pre .2) (a .batch-at .ensures) (n .before .parity-length .ensures) (n .parity-count .ensures)
+    rw (o .pre .3 .width) (move-roomy _ (o .pre .0) _ (o .pre .1) _ _ _ _ (o .pre .2) (a .batch-at .ensures) (n .before .parity-length .ensures) (n .parity-count .ensures))
 
 same-length : tie.Need-same-length
 same-length c = search needs
@@ -38,7 +38,7 @@ returns c =
     let n = t .before .before .before in
     let a = n .before .before in
     let o = a .before .before .before in
-    (t .move-to .ensures .0 ∙ moved-rules (o .args .settings) (o .pre .0) (o .args .sheet .now) (o .pre .1) _ _ _ _ _ _ (o .pre .2 .stage) (a .batch-at .ensures) (n .before .parity-length .ensures) (n .parity-count .ensures) (a .before .values-after .ensures), t .move-to .ensures .1)
+    (rw (o .pre .3 .width) at (t .move-to .ensures .0) ∙ moved-rules (o .args .settings) (o .pre .0) (o .args .sheet .now) (o .pre .1) _ _ _ _ _ _ (o .pre .2 .stage) (a .batch-at .ensures) (n .before .parity-length .ensures) (n .parity-count .ensures) (a .before .values-after .ensures), t .move-to .ensures .1)
 
 pub make-move-spec : {M : Type 1} → statement M
 make-move-spec =

@@ -29,7 +29,7 @@ make-move-requires c κs =
     let t = c .before .before in
     let l = t .before .before in
     let o = l .before .before .before in
-    (o .pre .0, o .pre .1, stuck-fits _ (o .pre .0) _ (o .pre .1) _ _ _ (o .pre .2) _ (sym (l .later-left .ensures) ∙ ap asLater (t .to .given .1)))
+    (o .pre .0, o .pre .1, stuck-fits _ (o .pre .0) _ (o .pre .1) _ _ _ (o .pre .2) _ (sym (l .later-left .ensures) ∙ ap asLater (t .to .given .1)), o .pre .3)
 
 same-length-2 : tie.Need-same-length-2
 same-length-2 c = search needs

@@ -1,41 +1,32 @@
--- The batch lies inside the sheet.
-use mathlib.Core.Path.{ap, ap₂}
+-- The batch of the stage with d left is batch s - 1 - d.
+use mathlib.Core.Path.{_≡_, ap₂, _∙_}
 use Prim.Native.Nat.{ℕ, _+_, _-_, _*_}
 use native.Mathlib.Omega.{arith}
-use Rattle.sheet.specs.LayoutLaws.{batch-inside}
+use Rattle.rules.specs.Batches.{batchCells}
+use Rattle.rules.specs.GuaranteeLaws.{batch-start-is}
+use Rattle.sheet.specs.LayoutLaws.{cells-are}
 use borrow.Author.Needs.{needs}
 use Rattle.sheet.proofs.layout.batch_at.Statement.{statement}
 use Rattle.sheet.proofs.layout.batch_at.Tie as tie
 
-block-cells-requires : tie.Need-block-cells-requires
-block-cells-requires c κs = search needs
+sub-batch-start : tie.Need-sub-batch-start
+sub-batch-start c = search needs
 
-sub-result : tie.Need-sub-result
-sub-result c = search needs
+sub-batch-start-2 : tie.Need-sub-batch-start-2
+sub-batch-start-2 c = search needs
 
-sub-result-2 : tie.Need-sub-result-2
-sub-result-2 c = search needs
-
-batch-cells-requires : tie.Need-batch-cells-requires
-batch-cells-requires c κs = search needs
-
-mul-result : tie.Need-mul-result
-mul-result c = let o = c .before .before .before in omega (arith, batch-inside _ (o .pre .0) _ (o .pre .1), o .pre .0 .cells-most, ap (λ (x : ℕ). (o .args .settings .s - 2 - o .args .left) * x) (c .batch-cells .ensures))
-
-add-result : tie.Need-add-result
-add-result c = let o = c .before .before .before in omega (arith, batch-inside _ (o .pre .0) _ (o .pre .1), o .pre .0 .cells-most, ap (λ (x : ℕ). (o .args .settings .s - 2 - o .args .left) * x) (c .batch-cells .ensures), c .before .before .block-cells .ensures)
+batch-start-requires : tie.Need-batch-start-requires
+batch-start-requires c κs = search needs
 
 returns : tie.Need-returns
-returns c = let o = c .before .before .before in ap₂ (λ (x y : ℕ). x + (o .args .settings .s - 2 - o .args .left) * y) (c .before .before .block-cells .ensures) (c .batch-cells .ensures)
+returns c =
+    let o = c .before .before in
+    let r = o .args .settings in
+    let d = o .args .left in
+    let e : r .s - 1 - d - 1 ≡ r .s - 2 - d = omega arith in
+    c .batch-start .ensures ∙ batch-start-is r _ (o .pre .2) (omega arith) (omega arith)
+    ∙ ap₂ (λ (x y : ℕ). x + y * batchCells (r .s) (r .w)) (cells-are r (o .pre .0)) e
 
 pub batch-at-spec : {M : Type 1} → statement M
 batch-at-spec =
-    tie.close
-    (tie.spec
-    block-cells-requires
-    sub-result
-    sub-result-2
-    batch-cells-requires
-    mul-result
-    add-result
-    returns)
+    tie.close (tie.spec sub-batch-start sub-batch-start-2 batch-start-requires returns)

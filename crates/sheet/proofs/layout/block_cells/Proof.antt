@@ -1,14 +1,18 @@
--- k is 2 ^ s.
-use Rattle.sheet.specs.LayoutLaws.{cells-are}
-use borrow.Author.Needs.{needs}
+-- The number of blocks is m, and k is 2 ^ s.
+use mathlib.Core.Path.{ap, _∙_}
+use Prim.Native.Nat.{ℕ, _*_}
+use native.Mathlib.Omega.{arith}
+use Rattle.sheet.specs.LayoutLaws.{cells-are, cells-most}
 use Rattle.sheet.proofs.layout.block_cells.Statement.{statement}
 use Rattle.sheet.proofs.layout.block_cells.Tie as tie
 
 mul-result : tie.Need-mul-result
-mul-result c = search needs
+mul-result c =
+    let o = c .before .before in
+    omega (arith, ap (λ (x : ℕ). x * o .args .settings .k) (o .pre .1 .blocks), cells-are _ (o .pre .0), cells-most _ (o .pre .0))
 
 returns : tie.Need-returns
-returns c = cells-are _ (c .before .pre)
+returns c = let o = c .before .before in ap (λ (x : ℕ). x * o .args .settings .k) (o .pre .1 .blocks) ∙ cells-are _ (o .pre .0)
 
 pub block-cells-spec : {M : Type 1} → statement M
 block-cells-spec = tie.close (tie.spec mul-result returns)

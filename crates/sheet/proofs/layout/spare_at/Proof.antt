@@ -17,10 +17,10 @@ batch-cells-requires : tie.Need-batch-cells-requires
 batch-cells-requires c κs = search needs
 
 mul-result : tie.Need-mul-result
-mul-result c = let o = c .before .before .before in omega (arith, staged-inside _ (o .pre), o .pre .cells-most, ap (λ (x : ℕ). (o .args .settings .s - 1) * x) (c .batch-cells .ensures))
+mul-result c = let o = c .before .before .before in omega (arith, staged-inside _ (o .pre .0), o .pre .0 .cells-most, ap (λ (x : ℕ). (o .args .settings .s - 1) * x) (c .batch-cells .ensures))
 
 add-result : tie.Need-add-result
-add-result c = let o = c .before .before .before in omega (arith, staged-inside _ (o .pre), o .pre .cells-most, ap (λ (x : ℕ). (o .args .settings .s - 1) * x) (c .batch-cells .ensures), c .before .before .block-cells .ensures)
+add-result c = let o = c .before .before .before in omega (arith, staged-inside _ (o .pre .0), o .pre .0 .cells-most, ap (λ (x : ℕ). (o .args .settings .s - 1) * x) (c .batch-cells .ensures), c .before .before .block-cells .ensures)
 
 returns : tie.Need-returns
 returns c = let o = c .before .before .before in ap₂ (λ (x y : ℕ). x + (o .args .settings .s - 1) * y) (c .before .before .block-cells .ensures) (c .batch-cells .ensures)

@@ -1,55 +1,99 @@
--- The scan, the place, and the change there.
+-- The place that the look tells, and the change there.
+use mathlib.Core.Path.{_≡_, ap, ap₂}
+use Prim.Native.Nat.{ℕ, _+_, _*_, _≤_, _<_}
 use native.Mathlib.Omega.{arith}
-use borrow.Author.Tests.{not-true, not-false}
 use Rattle.rules.specs.AcceptLaws.{staged-bits}
+use Rattle.rules.specs.Staged.{indexBlocks}
+use Rattle.stage.specs.declared.StagePlace.{StagePlace}
+use Rattle.sheet.specs.Meaning.{PlaceAt}
 use Rattle.sheet.specs.StageLaws.{stage-below}
-use Rattle.sheet.specs.WithinLaws.{stage-broken, stage-keeps, place-at, goes-on}
+use Rattle.sheet.specs.WithinLaws.{free-slot, goes-on, index-in, own-slot, place-at, stage-keeps}
 use borrow.Author.Needs.{needs}
 use Rattle.sheet.proofs.within.change_stage.Statement.{statement}
 use Rattle.sheet.proofs.within.change_stage.Tie as tie
+use Rattle.sheet.proofs.within.change_stage.Reads as reads
+use Rattle.sheet.proofs.within.change_stage.Lts as lts
+use Rattle.sheet.proofs.kind1.move_on.Reads as move-on-reads
+use Rattle.sheet.proofs.layout.parity_count.Reads as parity-count-reads
+use Rattle.sheet.proofs.within.raise_own.Reads as raise-own-reads
+use Rattle.sheet.proofs.within.take_free.Reads as take-free-reads
+use Rattle.stage.proofs.place_in.Reads as place-in-reads
 
-scan-at-requires : tie.Need-scan-at-requires
-scan-at-requires c κs =
-    let o = c .before .before in
-    (o .pre .0, o .pre .1, stage-below _ (o .pre .0) _ _ (o .pre .3 .stage))
+parity-count-requires : tie.Need-parity-count-requires
+parity-count-requires c κs = let o = c .before in (o .pre .0, omega (arith, stage-below _ (o .pre .0) _ _ (o .pre .3 .stage .stage)), o .pre .4)
+
+place-in-requires : tie.Need-place-in-requires
+place-in-requires c κs = let o = c .before .before in omega (arith, o .pre .2, staged-bits _ (o .pre .0) .1)
+
+-- the place found means what it says
+placed : (c : lts.After-place-in (parity-count-reads.Asked, parity-count-reads.Learnt, place-in-reads.Asked, place-in-reads.Learnt, raise-own-reads.Asked, raise-own-reads.Learnt, take-free-reads.Asked, take-free-reads.Learnt, move-on-reads.Asked, move-on-reads.Learnt) reads.Pre reads.Post) {y : StagePlace} → c .place-in .result ≡ y
+    → let a = c .before .before .before .args in PlaceAt (a .settings) (a .sheet .now) (a .bit) (a .left) y
+placed c e =
+    let o = c .before .before .before in
+    let g = o .pre .3 in
+    place-at _ (o .pre .0) _ (o .pre .1) _ _ (g .stage) (g .passed) (o .pre .2) _ (c .before .parity-count .ensures) (c .place-in .ensures) e
+
+-- an index block lies in the sheet, as its cells are counted
+inside : (c : lts.After-place-in (parity-count-reads.Asked, parity-count-reads.Learnt, place-in-reads.Asked, place-in-reads.Learnt, raise-own-reads.Asked, raise-own-reads.Learnt, take-free-reads.Asked, take-free-reads.Learnt, move-on-reads.Asked, move-on-reads.Learnt) reads.Pre reads.Post) (x : ℕ)
+    → let a = c .before .before .before .args in x < indexBlocks (a .settings .s) → a .look .batch + x * a .sizes .width ≤ 16384
+inside c x l =
+    let o = c .before .before .before in
+    let g = o .pre .3 in
+    omega (arith, index-in _ (o .pre .0) _ (stage-below _ (o .pre .0) _ _ (g .stage .stage)) x l, o .pre .0 .cells-most, g .passed .batch, ap (λ (y : ℕ). x * y) (o .pre .4 .width))
+
+enum-known-block : tie.Need-enum-known-block
+enum-known-block c = search needs
+
+mul-index : tie.Need-mul-index
+mul-index c =
+    let n = c .before .before .before in
+    let o = n .before .before .before in
+    omega (arith, inside n _ (own-slot _ (o .pre .0) _ (o .pre .1) _ _ (o .pre .3 .stage) _ _ _ (placed n (c .before .block .given .1))))
+
+add-index : tie.Need-add-index
+add-index c =
+    let n = c .before .before .before in
+    let o = n .before .before .before in
+    omega (arith, inside n _ (own-slot _ (o .pre .0) _ (o .pre .1) _ _ (o .pre .3 .stage) _ _ _ (placed n (c .before .block .given .1))))
+
+raise-own-requires : tie.Need-raise-own-requires
+raise-own-requires c κs =
+    let b = c .before .before in
+    let n = b .before .before in
+    let o = n .before .before .before in
+    let g = o .pre .3 in
+    let i = ap₂ (λ (x y : ℕ). x + b .block .given .0 .1 .0 * y) (g .passed .batch) (o .pre .4 .width) in
+    (o .pre .0, o .pre .1, g .stage, stage-keeps _ (o .pre .0) _ (o .pre .1) (o .args .bit) _ (g .stage) (g .passed), o .pre .2, record { slot = _; index = i; place = placed n (b .block .given .1) }, o .pre .4)
 
 same-length : tie.Need-same-length
 same-length c = search needs
 
 returns : tie.Need-returns
-returns c =
-    let k = c .before .before in
-    let o = k .before .before .before in
-    stage-broken _ (o .pre .0) _ (o .pre .1) _ _ (o .pre .3) (k .scan-at .ensures) (not-true _ (c .if1 .taken))
+returns c = search needs
 
-parity-count-requires : tie.Need-parity-count-requires
-parity-count-requires c κs =
-    let o = c .before .before .before .before .before .before in
-    (o .pre .0, omega (arith, stage-below _ (o .pre .0) _ _ (o .pre .3 .stage)))
+enum-known-block-2 : tie.Need-enum-known-block-2
+enum-known-block-2 c = search needs
 
-place-in-requires : tie.Need-place-in-requires
-place-in-requires c κs =
-    let o = c .before .before .before .before .before .before .before in
-    omega (arith, o .pre .2, staged-bits _ (o .pre .0) .1)
+mul-index-2 : tie.Need-mul-index-2
+mul-index-2 c =
+    let n = c .before .before .before in
+    let o = n .before .before .before in
+    omega (arith, inside n _ (free-slot _ (o .pre .0) _ (o .pre .1) _ _ (o .pre .3 .stage) _ _ _ (placed n (c .before .block2 .given .1))))
 
-enum-known-j : tie.Need-enum-known-j
-enum-known-j c = search needs
+add-index-2 : tie.Need-add-index-2
+add-index-2 c =
+    let n = c .before .before .before in
+    let o = n .before .before .before in
+    omega (arith, inside n _ (free-slot _ (o .pre .0) _ (o .pre .1) _ _ (o .pre .3 .stage) _ _ _ (placed n (c .before .block2 .given .1))))
 
-raise-own-requires : tie.Need-raise-own-requires
-raise-own-requires c κs =
-    let n = c .before .before .before .before in
-    let u = n .before in
-    let e = u .before .before in
-    let k = e .before .before in
-    let o = k .before .before .before in
-    let t = not-false _ (e .if1 .left) in (
-      o .pre .0,
-      o .pre .1,
-      o .pre .3,
-      stage-keeps _ (o .pre .0) _ (o .pre .1) (o .args .bit) _ (o .pre .3) (k .scan-at .ensures) t,
-      o .pre .2,
-      place-at _ (o .pre .0) _ (o .pre .1) _ _ (o .pre .3) (k .scan-at .ensures) t (o .pre .2) _ (u .parity-count .ensures) (n .place-in .ensures) (c .before .before .j .given .1),
-    )
+take-free-requires : tie.Need-take-free-requires
+take-free-requires c κs =
+    let b = c .before .before in
+    let n = b .before .before in
+    let o = n .before .before .before in
+    let g = o .pre .3 in
+    let i = ap₂ (λ (x y : ℕ). x + b .block2 .given .0 .1 .0 * y) (g .passed .batch) (o .pre .4 .width) in
+    (o .pre .0, o .pre .1, g .stage, stage-keeps _ (o .pre .0) _ (o .pre .1) (o .args .bit) _ (g .stage) (g .passed), o .pre .2, record { slot = _; index = i; place = placed n (b .block2 .given .1) }, o .pre .4)
 
 same-length-2 : tie.Need-same-length-2
 same-length-2 c = search needs
@@ -57,24 +101,16 @@ same-length-2 c = search needs
 returns-2 : tie.Need-returns-2
 returns-2 c = search needs
 
-enum-known-j-2 : tie.Need-enum-known-j-2
-enum-known-j-2 c = search needs
+enum-told : tie.Need-enum-told
+enum-told c = search needs
 
-take-free-requires : tie.Need-take-free-requires
-take-free-requires c κs =
-    let n = c .before .before .before .before in
-    let u = n .before in
-    let e = u .before .before in
-    let k = e .before .before in
-    let o = k .before .before .before in
-    let t = not-false _ (e .if1 .left) in (
-      o .pre .0,
-      o .pre .1,
-      o .pre .3,
-      stage-keeps _ (o .pre .0) _ (o .pre .1) (o .args .bit) _ (o .pre .3) (k .scan-at .ensures) t,
-      o .pre .2,
-      place-at _ (o .pre .0) _ (o .pre .1) _ _ (o .pre .3) (k .scan-at .ensures) t (o .pre .2) _ (u .parity-count .ensures) (n .place-in .ensures) (c .before .before .j2 .given .1),
-    )
+move-on-requires : tie.Need-move-on-requires
+move-on-requires c κs =
+    let t = c .before .before in
+    let n = t .before .before in
+    let o = n .before .before .before in
+    let g = o .pre .3 in
+    (o .pre .0, o .pre .1, goes-on _ (o .pre .0) _ (o .pre .1) _ _ (g .stage) (g .passed) (placed n (t .enum-told .given .1)), o .pre .4)
 
 same-length-3 : tie.Need-same-length-3
 same-length-3 c = search needs
@@ -82,47 +118,25 @@ same-length-3 c = search needs
 returns-3 : tie.Need-returns-3
 returns-3 c = search needs
 
-enum-told : tie.Need-enum-told
-enum-told c = search needs
-
-move-on-requires : tie.Need-move-on-requires
-move-on-requires c κs =
-    let n = c .before .before .before in
-    let u = n .before in
-    let e = u .before .before in
-    let k = e .before .before in
-    let o = k .before .before .before in
-    let t = not-false _ (e .if1 .left) in (
-      o .pre .0,
-      o .pre .1,
-      goes-on _ (o .pre .0) _ (o .pre .1) _ _ (o .pre .3) (k .scan-at .ensures) t
-          (place-at _ (o .pre .0) _ (o .pre .1) _ _ (o .pre .3) (k .scan-at .ensures) t (o .pre .2) _ (u .parity-count .ensures) (n .place-in .ensures) (c .before .enum-told .given .1)),
-    )
-
-same-length-4 : tie.Need-same-length-4
-same-length-4 c = search needs
-
-returns-4 : tie.Need-returns-4
-returns-4 c = search needs
-
 pub change-stage-spec : {M : Type 1} → statement M
 change-stage-spec =
     tie.close
     (tie.spec
-    scan-at-requires
-    same-length
-    returns
     parity-count-requires
     place-in-requires
-    enum-known-j
+    enum-known-block
+    mul-index
+    add-index
     raise-own-requires
+    same-length
+    returns
+    enum-known-block-2
+    mul-index-2
+    add-index-2
+    take-free-requires
     same-length-2
     returns-2
-    enum-known-j-2
-    take-free-requires
-    same-length-3
-    returns-3
     enum-told
     move-on-requires
-    same-length-4
-    returns-4)
+    same-length-3
+    returns-3)

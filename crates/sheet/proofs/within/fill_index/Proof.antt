@@ -5,9 +5,6 @@ use borrow.Author.Needs.{needs}
 use Rattle.sheet.proofs.within.fill_index.Statement.{statement}
 use Rattle.sheet.proofs.within.fill_index.Tie as tie
 
-index-at-requires : tie.Need-index-at-requires
-index-at-requires c κs = search needs
-
 add-e : tie.Need-add-e
 add-e c = search needs
 
@@ -40,37 +37,32 @@ fill-requires c κs = search needs
 
 mul-result : tie.Need-mul-result
 mul-result c =
-    let y = c .before .before .before in
-    let q = y .before .before .before in
-    let i = q .before .before .before .before in
-    let o = i .before .before in
-    omega (arith, width-most _ (o .pre .0) _ _ (o .pre .2) (o .pre .3))
+    let o = c .before .before .before .before .before .before .before .before .before .before .before .before in
+    rw (o .pre .3 .width) (omega (arith, width-most _ (o .pre .0) _ (o .pre .2)))
 
 sub-result : tie.Need-sub-result
 sub-result c =
-    let y = c .before .before .before in
-    let q = y .before .before .before in
-    let i = q .before .before .before .before in
-    let o = i .before .before in
-    omega (arith, lent-most _ (o .pre .0) _ (o .pre .1) _ _ (o .pre .2) (o .pre .3) _ (i .index-at .ensures .0) _ (q .sum-of .ensures))
+    let q = c .before .before .before .before .before .before .before in
+    let o = q .before .before .before .before .before in
+    let w = o .pre .3 .width in
+    rw w (lent-most _ (o .pre .0) _ (o .pre .1) _ (o .pre .2) _ (rw w at (q .sum-of .ensures)))
 
 same-length : tie.Need-same-length
 same-length c = search needs
 
 returns : tie.Need-returns
 returns c =
-    let y = c .before .before .before in
+    let y = c .before .before .before .before in
     let q = y .before .before .before in
-    let i = q .before .before .before .before in
-    let o = i .before .before in
-    let t = fill-told _ (o .pre .0) _ (o .pre .1) _ _ (o .pre .2) (o .pre .3) _ (i .index-at .ensures .0) _ _ (q .sum-of .ensures) (y .fill .ensures) in
-    (t .cells, (t .raised, t .small))
+    let o = q .before .before .before .before .before in
+    let w = o .pre .3 .width in
+    let t = fill-told _ (o .pre .0) _ (o .pre .1) _ (o .pre .2) _ _ (rw w at (q .sum-of .ensures)) (rw w at (y .fill .ensures)) in
+    rw w (t .cells, (t .raised, t .small))
 
 pub fill-index-spec : {M : Type 1} → statement M
 fill-index-spec =
     tie.close
     (tie.spec
-    index-at-requires
     add-e
     sub-sum-of
     part-sum-of-start

@@ -1,13 +1,8 @@
 -- The index block is lent, and put back with the digits of the number.
-use mathlib.Core.Path.{subst, sym}
-use Prim.Native.Nat.{ℕ, suc, _<_, _^_}
 use Rattle.sheet.specs.WithinLaws.{lent-long, name-told}
 use borrow.Author.Needs.{needs}
 use Rattle.sheet.proofs.within.name_index.Statement.{statement}
 use Rattle.sheet.proofs.within.name_index.Tie as tie
-
-index-at-requires : tie.Need-index-at-requires
-index-at-requires c κs = search needs
 
 add-e : tie.Need-add-e
 add-e c = search needs
@@ -26,10 +21,8 @@ cast-set-index c = search needs
 
 set-index-requires : tie.Need-set-index-requires
 set-index-requires c κs =
-    let i = c .before .before .before in
-    let o = i .before .before in
-    let a = o .args in
-    subst (λ (n : ℕ). a .number < suc (a .settings .top) ^ n) (sym (lent-long _ (o .pre .0) _ (o .pre .1) _ _ (o .pre .2) (o .pre .3) _ (i .index-at .ensures .0))) (o .pre .4)
+    let o = c .before .before .before .before in
+    rw (o .pre .5 .width, lent-long _ (o .pre .0) _ (o .pre .1) _ (o .pre .2)) (o .pre .3)
 
 sub-sum-of : tie.Need-sub-sum-of
 sub-sum-of c = search needs
@@ -49,16 +42,15 @@ same-length c = search needs
 returns : tie.Need-returns
 returns c =
     let y = c .before .before .before .before .before in
-    let i = y .before .before .before .before in
-    let o = i .before .before in
-    let t = name-told _ (o .pre .0) _ (o .pre .1) _ _ (o .pre .2) (o .pre .3) _ (i .index-at .ensures .0) _ _ _ (o .pre .4) (o .pre .5) (y .set-index .ensures) (c .sum-of .ensures) in
-    (t .cells, (t .raised, t .small))
+    let o = y .before .before .before .before .before in
+    let w = o .pre .5 .width in
+    let t = name-told _ (o .pre .0) _ (o .pre .1) _ (o .pre .2) _ _ _ (o .pre .3) (o .pre .4) (rw w at (y .set-index .ensures)) (rw w at (c .sum-of .ensures)) in
+    rw w (t .cells, (t .raised, t .small))
 
 pub name-index-spec : {M : Type 1} → statement M
 name-index-spec =
     tie.close
     (tie.spec
-    index-at-requires
     add-e
     sub-set-index
     part-set-index-start

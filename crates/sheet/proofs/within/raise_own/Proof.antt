@@ -3,49 +3,42 @@ use mathlib.Core.Path.{ap, refl, sym, subst}
 use Prim.Native.Nat.{ℕ, _*_}
 use native.Mathlib.Omega.{arith}
 use Rattle.sheet.specs.Meaning.{Levelled}
-use Rattle.sheet.specs.WithinLaws.{below, full-most, own-block, own-slot, own-weight, own-raised, own-filled, raised-levelled}
+use Rattle.sheet.specs.WithinLaws.{below, full-most, index-in, own-block, own-slot, own-weight, own-raised, own-filled, raised-levelled}
 use borrow.Author.Needs.{needs}
 use Rattle.sheet.proofs.within.raise_own.Statement.{statement}
 use Rattle.sheet.proofs.within.raise_own.Tie as tie
 
 raise-at-requires : tie.Need-raise-at-requires
-raise-at-requires c κs =
-    let o = c .before .before in
-    (o .pre .0, o .pre .1, below _ (o .pre .0) _ (o .pre .1) (o .args .bit) _ (o .pre .2), own-block _ (o .pre .0) _ (o .pre .1) _ _ (o .pre .2) _ _ _ (o .pre .5))
+raise-at-requires c κs = let o = c .before .before in (o .pre .0, o .pre .1, below _ (o .pre .0) _ (o .pre .1) (o .args .bit) _ (o .pre .2), own-block _ (o .pre .0) _ (o .pre .1) _ _ (o .pre .2) _ _ _ (o .pre .5 .place), o .pre .6)
 
 parity-length-requires : tie.Need-parity-length-requires
-parity-length-requires c κs =
-    let o = c .before .before .before .before .before in
-    omega (arith, below _ (o .pre .0) _ (o .pre .1) (o .args .bit) _ (o .pre .2), o .pre .0 .stages-most)
+parity-length-requires c κs = let o = c .before .before .before .before .before in omega (arith, below _ (o .pre .0) _ (o .pre .1) (o .args .bit) _ (o .pre .2), o .pre .0 .stages-most)
 
 mul-full : tie.Need-mul-full
-mul-full c =
-    let o = c .before .before .before .before .before .before .before in
-    omega (arith, full-most _ (o .pre .0) _ (below _ (o .pre .0) _ (o .pre .1) (o .args .bit) _ (o .pre .2)) _ (c .before .parity-length .ensures))
+mul-full c = let o = c .before .before .before .before .before .before .before in omega (arith, full-most _ (o .pre .0) _ (below _ (o .pre .0) _ (o .pre .1) (o .args .bit) _ (o .pre .2)) _ (c .before .parity-length .ensures))
 
 add-if1 : tie.Need-add-if1
-add-if1 c =
-    let o = c .before .before .before .before .before .before .before in
-    omega (arith, full-most _ (o .pre .0) _ (below _ (o .pre .0) _ (o .pre .1) (o .args .bit) _ (o .pre .2)) _ refl, own-weight _ (o .pre .0) _ (o .pre .1) _ _ (o .pre .2) _ _ _ (o .pre .5))
+add-if1 c = let o = c .before .before .before .before .before .before .before .before in omega (arith, full-most _ (o .pre .0) _ (below _ (o .pre .0) _ (o .pre .1) (o .args .bit) _ (o .pre .2)) _ refl, own-weight _ (o .pre .0) _ (o .pre .1) _ _ (o .pre .2) _ _ _ (o .pre .5 .place))
 
 same-length : tie.Need-same-length
 same-length c = search needs
 
 returns : tie.Need-returns
 returns c =
-    let n = c .before .before in
+    let n = c .before .before .before in
     let y = n .before .before .before in
     let o = y .before .before .before in
-    own-raised _ (o .pre .0) _ (o .pre .1) _ _ (o .pre .2) _ _ _ (o .pre .5) (o .pre .3) _ _ (ap (λ (x : ℕ). x * o .args .settings .top) (n .parity-length .ensures)) (c .if1 .taken) (y .raise-at .ensures)
+    own-raised _ (o .pre .0) _ (o .pre .1) _ _ (o .pre .2) _ _ _ (o .pre .5 .place) (o .pre .3) _ _ (ap (λ (x : ℕ). x * o .args .settings .top) (n .parity-length .ensures)) (c .if1 .taken) (y .raise-at .ensures)
 
 fill-index-requires : tie.Need-fill-index-requires
 fill-index-requires c κs =
-    let y = c .before .before .before .before .before .before in
+    let y = c .before .before .before .before .before .before .before in
     let o = y .before .before .before in
-    (o .pre .0, subst (Levelled _) (sym (y .raise-at .ensures)) (raised-levelled _ (o .pre .0) _ (o .pre .1) _ (below _ (o .pre .0) _ (o .pre .1) (o .args .bit) _ (o .pre .2)) _ (own-block _ (o .pre .0) _ (o .pre .1) _ _ (o .pre .2) _ _ _ (o .pre .5))), below _ (o .pre .0) _ (o .pre .1) (o .args .bit) _ (o .pre .2), own-slot _ (o .pre .0) _ (o .pre .1) _ _ (o .pre .2) _ _ _ (o .pre .5))
+    let l = below _ (o .pre .0) _ (o .pre .1) (o .args .bit) _ (o .pre .2) in
+    (o .pre .0, subst (Levelled _) (sym (y .raise-at .ensures)) (raised-levelled _ (o .pre .0) _ (o .pre .1) _ l _ (own-block _ (o .pre .0) _ (o .pre .1) _ _ (o .pre .2) _ _ _ (o .pre .5 .place))), omega (arith, index-in _ (o .pre .0) _ l _ (own-slot _ (o .pre .0) _ (o .pre .1) _ _ (o .pre .2) _ _ _ (o .pre .5 .place)), o .pre .5 .index), o .pre .6)
 
-add-t16 : tie.Need-add-t16
-add-t16 c = search needs
+add-t15 : tie.Need-add-t15
+add-t15 c = search needs
 
 same-length-2 : tie.Need-same-length-2
 same-length-2 c = search needs
@@ -54,10 +47,10 @@ returns-2 : tie.Need-returns-2
 returns-2 c =
     let i = c .before .before in
     let e = i .before .before in
-    let n = e .before .before in
+    let n = e .before .before .before in
     let y = n .before .before .before in
     let o = y .before .before .before in
-    own-filled _ (o .pre .0) _ (o .pre .1) _ _ (o .pre .2) _ _ _ (o .pre .5) (o .pre .3) _ _ _ _ (ap (λ (x : ℕ). x * o .args .settings .top) (n .parity-length .ensures)) (e .if1 .left) (y .raise-at .ensures) (i .fill-index .ensures .0) (i .fill-index .ensures .1 .0)
+    own-filled _ (o .pre .0) _ (o .pre .1) _ _ (o .pre .2) _ _ _ (o .pre .5 .place) (o .pre .3) _ _ _ _ (ap (λ (x : ℕ). x * o .args .settings .top) (n .parity-length .ensures)) (e .if1 .left) (y .raise-at .ensures) (rw (o .pre .5 .index) at (i .fill-index .ensures .0)) (i .fill-index .ensures .1 .0)
 
 pub raise-own-spec : {M : Type 1} → statement M
 raise-own-spec =
@@ -70,6 +63,6 @@ raise-own-spec =
     same-length
     returns
     fill-index-requires
-    add-t16
+    add-t15
     same-length-2
     returns-2)

@@ -1,12 +1,8 @@
 -- The index is set, and the block raised only if its weight is even.
-use mathlib.Core.Path.{sym, subst, ap, _∙_}
-use mathlib.Core.List.{List}
-use Prim.Native.Nat.{ℕ}
+use mathlib.Core.Path.{sym, subst}
 use native.Mathlib.Omega.{arith}
-use Rattle.laws.specs.Splice.{part}
-use Rattle.rules.specs.Cells.{sum}
 use Rattle.sheet.specs.Meaning.{Levelled}
-use Rattle.sheet.specs.WithinLaws.{below, indexAt, free-block, free-slot, free-dark, raised-dark, free-odd, free-even, raised-levelled}
+use Rattle.sheet.specs.WithinLaws.{below, index-in, free-block, free-slot, free-dark, raised-dark, free-odd, free-even, raised-levelled}
 use borrow.Author.Needs.{needs}
 use Rattle.sheet.proofs.within.take_free.Statement.{statement}
 use Rattle.sheet.proofs.within.take_free.Tie as tie
@@ -16,8 +12,8 @@ add-name-index c = search needs
 
 name-index-requires : tie.Need-name-index-requires
 name-index-requires c κs =
-    let o = c .before .before .before in
-    (o .pre .0, o .pre .1, below _ (o .pre .0) _ (o .pre .1) (o .args .bit) _ (o .pre .2), free-slot _ (o .pre .0) _ (o .pre .1) _ _ (o .pre .2) _ _ _ (o .pre .5), omega (arith, o .pre .0 .enough, o .pre .4), free-dark _ (o .pre .0) _ (o .pre .1) _ _ (o .pre .2) _ _ _ (o .pre .5))
+    let o = c .before .before .before .before in
+    (o .pre .0, o .pre .1, omega (arith, index-in _ (o .pre .0) _ (below _ (o .pre .0) _ (o .pre .1) (o .args .bit) _ (o .pre .2)) _ (free-slot _ (o .pre .0) _ (o .pre .1) _ _ (o .pre .2) _ _ _ (o .pre .5 .place)), o .pre .5 .index), omega (arith, o .pre .0 .enough, o .pre .4), rw (o .pre .5 .index) (free-dark _ (o .pre .0) _ (o .pre .1) _ _ (o .pre .2) _ _ _ (o .pre .5 .place)), o .pre .6)
 
 same-length : tie.Need-same-length
 same-length c = search needs
@@ -26,13 +22,11 @@ returns : tie.Need-returns
 returns c =
     let y = c .before .before in
     let e = y .before .before in
-    let o = e .before .before in
-    free-odd _ (o .pre .0) _ (o .pre .1) _ _ (o .pre .2) _ _ _ (o .pre .5) (o .pre .3) _ _ (e .if1 .taken) (y .name-index .ensures .0) (y .name-index .ensures .1 .0)
+    let o = e .before .before .before in
+    free-odd _ (o .pre .0) _ (o .pre .1) _ _ (o .pre .2) _ _ _ (o .pre .5 .place) (o .pre .3) _ _ (e .if1 .taken) (rw (o .pre .5 .index) at (y .name-index .ensures .0)) (y .name-index .ensures .1 .0)
 
 raise-at-requires : tie.Need-raise-at-requires
-raise-at-requires c κs =
-    let o = c .before .before .before in
-    (o .pre .0, o .pre .1, below _ (o .pre .0) _ (o .pre .1) (o .args .bit) _ (o .pre .2), free-block _ (o .pre .0) _ (o .pre .1) _ _ (o .pre .2) _ _ _ (o .pre .5))
+raise-at-requires c κs = let o = c .before .before .before .before in (o .pre .0, o .pre .1, below _ (o .pre .0) _ (o .pre .1) (o .args .bit) _ (o .pre .2), free-block _ (o .pre .0) _ (o .pre .1) _ _ (o .pre .2) _ _ _ (o .pre .5 .place), o .pre .6)
 
 add-name-index-2 : tie.Need-add-name-index-2
 add-name-index-2 c = search needs
@@ -40,18 +34,18 @@ add-name-index-2 c = search needs
 name-index-requires-2 : tie.Need-name-index-requires-2
 name-index-requires-2 c κs =
     let y = c .before .before .before in
-    let o = y .before .before .before .before in
-    let a = o .args in (
+    let o = y .before .before .before .before .before in
+    let l = below _ (o .pre .0) _ (o .pre .1) (o .args .bit) _ (o .pre .2) in (
       o .pre .0,
-      subst (Levelled _) (sym (y .raise-at .ensures)) (raised-levelled _ (o .pre .0) _ (o .pre .1) _ (below _ (o .pre .0) _ (o .pre .1) (o .args .bit) _ (o .pre .2)) _ (free-block _ (o .pre .0) _ (o .pre .1) _ _ (o .pre .2) _ _ _ (o .pre .5))),
-      below _ (o .pre .0) _ (o .pre .1) (o .args .bit) _ (o .pre .2),
-      free-slot _ (o .pre .0) _ (o .pre .1) _ _ (o .pre .2) _ _ _ (o .pre .5),
+      subst (Levelled _) (sym (y .raise-at .ensures)) (raised-levelled _ (o .pre .0) _ (o .pre .1) _ l _ (free-block _ (o .pre .0) _ (o .pre .1) _ _ (o .pre .2) _ _ _ (o .pre .5 .place))),
+      omega (arith, index-in _ (o .pre .0) _ l _ (free-slot _ (o .pre .0) _ (o .pre .1) _ _ (o .pre .2) _ _ _ (o .pre .5 .place)), o .pre .5 .index),
       omega (arith, o .pre .0 .enough, o .pre .4),
-      ap (λ (g : List ℕ). sum (part (indexAt (a .settings) (a .left) (a .slot)) (a .settings .w) g)) (y .raise-at .ensures) ∙ raised-dark _ (o .pre .0) _ (o .pre .1) _ _ (o .pre .2) _ _ _ (o .pre .5),
+      rw (y .raise-at .ensures, o .pre .5 .index) (raised-dark _ (o .pre .0) _ (o .pre .1) _ _ (o .pre .2) _ _ _ (o .pre .5 .place)),
+      o .pre .6,
     )
 
-add-t20 : tie.Need-add-t20
-add-t20 c = search needs
+add-t19 : tie.Need-add-t19
+add-t19 c = search needs
 
 same-length-2 : tie.Need-same-length-2
 same-length-2 c = search needs
@@ -61,8 +55,8 @@ returns-2 c =
     let n = c .before .before in
     let y = n .before .before .before .before in
     let e = y .before .before in
-    let o = e .before .before in
-    free-even _ (o .pre .0) _ (o .pre .1) _ _ (o .pre .2) _ _ _ (o .pre .5) (o .pre .3) _ _ _ (e .if1 .left) (y .raise-at .ensures) (n .name-index2 .ensures .0) (n .name-index2 .ensures .1 .0)
+    let o = e .before .before .before in
+    free-even _ (o .pre .0) _ (o .pre .1) _ _ (o .pre .2) _ _ _ (o .pre .5 .place) (o .pre .3) _ _ _ (e .if1 .left) (y .raise-at .ensures) (rw (o .pre .5 .index) at (n .name-index2 .ensures .0)) (n .name-index2 .ensures .1 .0)
 
 pub take-free-spec : {M : Type 1} → statement M
 take-free-spec =
@@ -75,6 +69,6 @@ take-free-spec =
     raise-at-requires
     add-name-index-2
     name-index-requires-2
-    add-t20
+    add-t19
     same-length-2
     returns-2)

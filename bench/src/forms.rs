@@ -1,0 +1,85 @@
+//! What two forms of the code cost: the loops over pairs of active blocks, and the methods of the settings record.
+
+use crate::job::Job;
+use crate::places::{both_kinds, settings, SHAPES};
+use crate::sheets::active;
+use crate::table::{grouped, name, Table};
+use crate::timing::{median, time};
+use harpginger::Kind;
+use second::Settings;
+use std::hint::black_box;
+use std::time::Instant;
+
+/// How many rounds a reading is measured for.
+const ROUNDS: usize = 401;
+
+/// How many times a record is worked out in a round.
+const TURNS: usize = 1_000;
+
+/// The number of BadSheet.
+const BAD_SHEET: usize = 6;
+
+/// Both tables.
+pub fn print() {
+    println!("**Pairs of active blocks**\n\n{}", pairs());
+    println!("**A settings record worked out**\n\n{}", records());
+}
+
+/// Readings that leave the loops over pairs at the first pair, at the last pair, or never.
+fn pairs() -> Table {
+    let settings = settings(0, SHAPES[0]).expect("accepted settings");
+    let heads = [
+        "active blocks",
+        "pairs",
+        "left at the first pair, ns",
+        "left at the last pair, ns",
+        "the loops, ns",
+        "accepted, ns",
+    ];
+    let mut table = Table::new(&heads, 0);
+    for count in [2, 8, settings.k] {
+        let bits: Vec<usize> = (0..count).collect();
+        let reading = |bits: &[usize], answer| {
+            let job = Job::reading(&settings, active(&settings, bits), answer);
+            time(&job, ROUNDS).library
+        };
+        let [mut first, mut last] = [bits.clone(), bits.clone()];
+        first[1] = first[0];
+        last[count - 1] = last[count - 2];
+        let [first, last, accepted] = [(first, BAD_SHEET), (last, BAD_SHEET), (bits, 0)]
+            .map(|(bits, answer)| reading(&bits, answer));
+        let pairs = (count * (count - 1) / 2) as u64;
+        let numbers = [first, last, (last - first).max(0.0), accepted];
+        let numbers = numbers.map(|number| number.round() as u64);
+        table.row(
+            [count as u64, pairs]
+                .into_iter()
+                .chain(numbers)
+                .map(grouped)
+                .collect(),
+        );
+    }
+    table
+}
+
+/// The time to work a record out once, which each method of the record does.
+fn records() -> Table {
+    let mut table = Table::new(&["settings", "once, ns"], 1);
+    for settings in both_kinds(&SHAPES) {
+        let rounds = (0..ROUNDS).map(|_| worked_out(&settings)).collect();
+        table.row(vec![name(&settings), format!("{:.1}", median(rounds))]);
+    }
+    table
+}
+
+/// The time of one acceptance, in nanoseconds.
+fn worked_out(settings: &Settings) -> f64 {
+    let kind = [Kind::Plain, Kind::Staged][settings.kind];
+    let start = Instant::now();
+    for _ in 0..TURNS {
+        let [k, top, n] = black_box([settings.k, settings.top, settings.n]);
+        let accepted = harpginger::Settings::accept(kind, k, top, n);
+        assert!(black_box(accepted).is_ok(), "accepted settings");
+    }
+    start.elapsed().as_nanos() as f64 / TURNS as f64
+}
