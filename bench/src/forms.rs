@@ -49,15 +49,15 @@ fn pairs() -> Table {
         let [first, last, accepted] = [(first, BAD_SHEET), (last, BAD_SHEET), (bits, 0)]
             .map(|(bits, answer)| reading(&bits, answer));
         let pairs = (count * (count - 1) / 2) as u64;
-        let numbers = [first, last, (last - first).max(0.0), accepted];
-        let numbers = numbers.map(|number| number.round() as u64);
-        table.row(
-            [count as u64, pairs]
-                .into_iter()
-                .chain(numbers)
-                .map(grouped)
-                .collect(),
-        );
+        let [first, last, accepted] = [first, last, accepted].map(|time| time.round() as u64);
+        // Of two blocks there is one pair, so that the first is the last.
+        let loops = match count {
+            2 => "-".into(),
+            _ => grouped(last.saturating_sub(first)),
+        };
+        let [count, pairs] = [count as u64, pairs].map(grouped);
+        let [first, last, accepted] = [first, last, accepted].map(grouped);
+        table.row(vec![count, pairs, first, last, loops, accepted]);
     }
     table
 }

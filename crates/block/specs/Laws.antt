@@ -72,10 +72,6 @@ least-take s i h b =
 
 -- ---- the first cell above L
 
--- a search that found nothing
-none-there : {P : ℕ → Type 0} {m : ℕ} → First P m nowhere → (c : ℕ) → c < m → ¬ (P c)
-none-there (miss b) = b
-
 -- whoever shows what an answer means has the first cell above L
 pub above-is : (L : ℕ) (s : List ℕ) {f : Found} → First (λ c. L < getD s c 0) (length s) f → f ≡ firstAbove L s
 unfolding firstAbove

@@ -5,7 +5,7 @@ use mathlib.Core.Logic.{_≢_}
 use mathlib.Core.Path.{_∙_, _≡_, ap, refl, subst, sym}
 use Prim.Native.Nat.{_*_, _+_, _-_, _<_, _≤_, suc, zero, ℕ}
 use native.Mathlib.Decide.{decLt}
-use native.Mathlib.Nat.{add-sub-of-le, mul-le-mul-right, suc-mul, zero-mul}
+use native.Mathlib.Nat.{add-sub-of-le, mul-le-mul, mul-le-mul-right, suc-mul, zero-mul}
 use native.Mathlib.Omega.{arith}
 use lib.ListN.{drop, length, length-append, length-drop, take, take-append-drop}
 use lib.Seq.{drop-append-add, drop-append-le, drop-at, drop-drop, length-take-le, take-add, take-append-le, take-at}
@@ -15,6 +15,10 @@ use Rattle.rules.specs.Cells.{Low, Rises, block, store, sum}
 -- block j of n blocks ends where they do, or before
 pub block-fits : (w j n : ℕ) → j < n → j * w + w ≤ n * w
 block-fits w j n h = omega (arith, mul-le-mul-right {m = suc j} {n = n} w h)
+
+-- n blocks of two cells or more have two cells each at the least
+pub blocks-cells : (w n : ℕ) → 2 ≤ w → n * 2 ≤ n * w
+blocks-cells w n h = let g : n ≤ n = omega arith in mul-le-mul g h
 
 -- the cells from j times w to j times w + w, as a part lent on, are block j
 pub part-block : (w : ℕ) (xs : List ℕ) (j : ℕ) → take (j * w + w - j * w) (drop (j * w) xs) ≡ block w xs j

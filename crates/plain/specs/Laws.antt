@@ -290,16 +290,6 @@ module _ {k L m : ℕ} {xs : List ℕ} {r : Look} (h : Scanned k L m xs r) where
       pick-elim (λ a. r .answer ≡ a → BlocksOk k L m xs × (r .answer ≡ Done 0)) (blocksOk? k L m xs) (Done 0) BadSheet
       (λ b e. (b, e)) (λ n e. refuse-pass (sym (ap asCheck e) ∙ t)) (h .answer)
 
-  -- any other answer is BadSheet, and they break the rules
-  pub scanned-broken : r .answer ≢ Done 0 → ¬ (BlocksOk k L m xs) × (r .answer ≡ BadSheet)
-  scanned-broken t =
-      pick-elim (λ a. r .answer ≡ a → ¬ (BlocksOk k L m xs) × (r .answer ≡ BadSheet)) (blocksOk? k L m xs) (Done 0) BadSheet
-      (λ b e. absurd (t e)) (λ n e. (n, e)) (h .answer)
-
-  -- so it is with an answer that refuses
-  pub scanned-refused : {a : Answer} → asCheck (r .answer) ≡ Refuse a → ¬ (BlocksOk k L m xs) × (r .answer ≡ BadSheet)
-  scanned-refused t = scanned-broken (λ e. refuse-pass (sym t ∙ ap asCheck e))
-
 -- ---- the state of a block, from its part of the cells
 
 -- block j lies within the cells
@@ -357,10 +347,10 @@ part-length k xs j h = ap length (part-block k xs j) ∙ length-block k xs j h
 pub part-low : (k L : ℕ) (xs : List ℕ) (j : ℕ) → Low L xs → Low L (take (j * k + k - j * k) (drop (j * k) xs))
 part-low k L xs j h = low-take L (j * k + k - j * k) (drop (j * k) xs) (low-drop L (j * k) xs h)
 
--- the bit of an active block is one of the k bits
-pub active-below : (k L : ℕ) (xs : List ℕ) (j b v : ℕ) → 0 < k → 0 < L → states k L xs j ≡ active b v → b < k
+-- the bit of an active block is one of the k bits, and its weight is less than a full block's
+pub active-below : (k L : ℕ) (xs : List ℕ) (j b v : ℕ) → 0 < k → 0 < L → states k L xs j ≡ active b v → (b < k) × (v < k * L)
 unfolding states
-active-below k L xs j b v h g e = let q : Means k L (active b v) (block k xs j) = subst (λ (s : State). Means k L s (block k xs j)) e (state-means k L h g (block k xs j)) in q .0
+active-below k L xs j b v h g e = let q : Means k L (active b v) (block k xs j) = subst (λ (s : State). Means k L s (block k xs j)) e (state-means k L h g (block k xs j)) in (q .0, q .2)
 
 -- ---- the place of a change, and a reading
 

@@ -23,7 +23,7 @@ pub enum Found {
 }
 
 // The look at the blocks, of stage 0: the first empty block, or m; each bit's block, or m, and its weight.
-fn look_of(answer: Answer, places: [usize; 64], weights: [usize; 64], free: usize) -> Look
+fn look_of(answer: Answer, places: [u16; 64], weights: [u16; 64], free: usize) -> Look
     ensures { λ r. ⌜ r ≡ lookOf answer places weights free ⌝ }
 {
     Look {
@@ -46,7 +46,7 @@ fn refused() -> Look
 }
 
 // Whether the first n bits differ: each is held against every earlier one, and both loops are left at the first that an earlier one equals.
-fn check_repeats(bits: [usize; 65], n: usize) -> Answer
+fn check_repeats(bits: [u8; 65], n: usize) -> Answer
     requires { ⌜ (n ≤ 65) × (length bits ≡ 65) ⌝ }
     ensures { λ r. ⌜ r ≡ differing (take n bits) ⌝ }
 {
@@ -93,31 +93,31 @@ pub fn scan_blocks(cells: &[u8], k: usize, top: u8, m: usize) -> Look
 {
     let step = run_blocks(k);
     let mut free = m;
-    let mut places = [m; 64];
-    let mut weights = [0usize; 64];
-    let mut bits = [0usize; 65];
+    let mut places = [m as u16; 64];
+    let mut weights = [0u16; 64];
+    let mut bits = [0u8; 65];
     let mut n: usize = 0;
     let mut next: usize = 0;
     // k + 1 bits below k can't all differ, so no more are noted.
-    'each: while next < m && n <= k {
+    while next < m && n <= k {
         let j = next;
         next += 1;
         match state_at(cells, k, top, j) {
             BlockState::Full => {
                 next = past_run(cells, k, step, m, next, top);
-                continue 'each;
+                continue;
             }
             BlockState::Empty => {
                 free = first_empty(free, j, m);
                 next = past_run(cells, k, step, m, next, 0);
-                continue 'each;
+                continue;
             }
             BlockState::Broken => return refused(),
             BlockState::Active(bit, weight) => {
-                bits[n] = bit;
+                bits[n] = bit as u8;
                 n += 1;
-                places[bit] = j;
-                weights[bit] = weight;
+                places[bit] = j as u16;
+                weights[bit] = weight as u16;
             }
         }
     }
@@ -129,9 +129,9 @@ pub fn place_of(s: Look, bit: usize, m: usize) -> Found
     requires { ⌜ bit < 64 ⌝ }
     ensures { λ r. ⌜ r ≡ placeIn s bit m ⌝ }
 {
-    let own = s.places[bit];
+    let own = s.places[bit] as usize;
     if own < m {
-        return Found::At(own, s.weights[bit]);
+        return Found::At(own, s.weights[bit] as usize);
     }
     if s.free < m {
         return Found::At(s.free, 0);
@@ -140,7 +140,7 @@ pub fn place_of(s: Look, bit: usize, m: usize) -> Found
 }
 
 // The first k places set to the parities of the weights; how many are 1.
-pub fn write_bits(out: &mut [u8], k: usize, weights: [usize; 64]) -> usize
+pub fn write_bits(out: &mut [u8], k: usize, weights: [u16; 64]) -> usize
     requires { ⌜ (k ≤ 64) × (k ≤ length (now out)) ⌝ }
     ensures { λ r. ⌜ r ≡ sum (parities k weights) ⌝ }
     ensures { λ r. ⌜ now (out .exit) ≡ parities k weights ++ drop k (now (out .entry)) ⌝ }
@@ -150,7 +150,7 @@ pub fn write_bits(out: &mut [u8], k: usize, weights: [usize; 64]) -> usize
     while i < k {
         let value = weights[i] % 2;
         out[i] = value as u8;
-        ones += value;
+        ones += value as usize;
         i += 1;
     }
     ones

@@ -1,4 +1,4 @@
-// The types that every crate shares: the settings of a sheet and the answer of a call. Assumes nothing.
+// The types that every crate shares: the settings of a sheet, the answer of a call, and a look at a sheet. Assumes nothing.
 ghost use mathlib.Core.Path.{_≡_};
 ghost use Rattle.rules.specs.Answer.{numberOf, valueOf};
 
@@ -45,14 +45,14 @@ pub struct Setup {
     pub settings: Settings,
 }
 
-// What a look at a sheet finds: check 6's answer, Done with the stage that the sheet is in or BadSheet; the first cell of the stage's batch;
+// What the checks of a sheet find: the first refusal, or Done with the stage that the sheet is in; the first cell of the stage's batch;
 // and for each bit, and for the first block that no bit has, the block, its index block and its weight. The number of blocks stands for none.
 pub struct Look {
     pub answer: Answer,
     pub batch: usize,
-    pub places: [usize; 64],
-    pub slots: [usize; 64],
-    pub weights: [usize; 64],
+    pub places: [u16; 64],
+    pub slots: [u8; 64],
+    pub weights: [u16; 64],
     pub free: usize,
     pub free_slot: usize,
     pub free_weight: usize,

@@ -1,14 +1,23 @@
--- Laws of where the parts of a staged sheet stand: everything lies inside the n cells. Assumes nothing.
-use mathlib.Core.Path.{_≡_, sym, ap, subst}
+-- Laws of the sizes of a sheet, and of where the parts of a staged one stand: everything lies inside the n cells. Assumes nothing.
+use mathlib.Core.Path.{_≡_, _∙_, sym, ap, subst}
 use Prim.Native.Nat.{ℕ, suc, _+_, _-_, _*_, _^_, _≤_, _<_}
 use native.Mathlib.Nat.{mul-le-mul-right, le-mul-of-pos-right, pow-suc}
 use native.Mathlib.Omega.{arith}
 use lib.Pow.{pow-mono, pow-pos}
-use Rattle.rules.specs.AcceptLaws.{StagedFacts, staged-inside}
+use Rattle.rules.specs.Accept.{Genuine, genuine?, widthOf}
+use Rattle.rules.specs.AcceptLaws.{StagedFacts, genuine-plain, staged-inside}
 use Rattle.rules.specs.Batches.{batchCells}
+use Rattle.rules.specs.GuaranteeLaws.{reported-is, reported-none}
 use Rattle.rules.specs.Staged.{parityLength, parityCount}
 use Rattle.rules.specs.declared.Settings.{Settings}
 use Rattle.laws.specs.Parity.{count-width}
+
+-- a record of kind 0 has the width 0, whether acceptance gives it or not
+pub plain-width : (r : Settings) → r .kind ≡ 0 → 0 ≡ widthOf r
+plain-width r e = go (genuine? r) where
+  go : Dec (Genuine r) → 0 ≡ widthOf r
+  go (yes g) = sym (reported-is r (r .w) g ∙ genuine-plain r g e .no-width)
+  go (no n) = sym (reported-none r (r .w) n)
 
 -- a power of two that fits
 pub power-most : (e : ℕ) → e ≤ 16 → 2 ^ e ≤ 65536

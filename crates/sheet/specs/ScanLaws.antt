@@ -19,7 +19,7 @@ use Rattle.stage.specs.Meaning.{entries, StageFits, StageScanned, right, wrong}
 use Rattle.stage.specs.PlaceLaws.{stage-ok, stage-read}
 use Rattle.rules.specs.declared.Look.{Look}
 use Rattle.sheet.specs.Meaning.{AtStage, Levelled, LookOf, ScannedAt, batchAt, breaks, keeps, later, mBlocks, stageBatch}
-use Rattle.sheet.specs.LayoutLaws.{cells-most, batch-inside, parity-cells}
+use Rattle.sheet.specs.LayoutLaws.{cells-most, batch-inside, length-most, parity-cells}
 use Rattle.sheet.specs.StageLaws.{stage-sound, sound-stage, read-stage, batch-length, batch-part}
 use Rattle.sheet.specs.ZeroLaws.{cells-in}
 
@@ -54,6 +54,7 @@ module _ (r : Settings) (p : StagedFacts r) (f : List ℕ) (v : Levelled r f) wh
           bits = omega (arith, p .bits);
           few = omega (arith, p .bits);
           long = omega (arith, pow-pos d);
+          brief = omega (arith, length-most r p d e);
           inside = omega (arith, parity-cells r p d e);
           short = omega (arith, cells-most r p);
           level = p .top-least;

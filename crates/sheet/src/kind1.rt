@@ -109,14 +109,14 @@ fn value_after(weight: usize, i: usize, bit: usize) -> usize
 }
 
 // The values of all bits once the named bit is changed.
-fn values_after(weights: [usize; 64], k: usize, bit: usize) -> [usize; 64]
+fn values_after(weights: [u16; 64], k: usize, bit: usize) -> [usize; 64]
     requires { ⌜ k ≤ 64 ⌝ }
     ensures { λ r. ⌜ take k r ≡ tabulate k (after bit (λ y. getD weights y 0 % 2)) ⌝ }
 {
     let mut values = [0usize; 64];
     let mut i: usize = 0;
     while i < k {
-        values[i] = value_after(weights[i], i, bit);
+        values[i] = value_after(weights[i] as usize, i, bit);
         i += 1;
     }
     values
@@ -147,7 +147,7 @@ fn make_move(
     sheet: &mut [u8],
     bit: usize,
     to: usize,
-    weights: [usize; 64],
+    weights: [u16; 64],
 ) -> usize
     requires { ⌜ StagedFacts settings × Levelled settings (now sheet) × MoveFits settings (now sheet) to × Sized settings sizes ⌝ }
     ensures { λ _. ⌜ now (sheet .exit) ≡ movedSheet settings (now (sheet .entry)) to (after bit (λ y. getD weights y 0 % 2)) ⌝ }
@@ -177,7 +177,7 @@ pub fn move_on(
     sheet: &mut [u8],
     bit: usize,
     left: usize,
-    weights: [usize; 64],
+    weights: [u16; 64],
 ) -> Answer
     requires { ⌜ StagedFacts settings × Levelled settings (now sheet) × Stuck settings (now sheet) bit left weights × Sized settings sizes ⌝ }
     ensures { λ r. ⌜ outcome r (now (sheet .exit)) ≡ fromSheet settings (now (sheet .entry)) bit ⌝ }

@@ -14,12 +14,16 @@ pub struct Sizes {
     pub width: usize,
 }
 
-// The sizes of a sheet, by the methods of its settings.
+// The sizes of a sheet, by the methods of its settings; a plain sheet has no index blocks, and their width is 0.
 pub fn sizes_of(settings: Settings) -> Sizes
     ensures { λ r. ⌜ r ≡ sizesOf settings ⌝ }
 {
+    let blocks = settings.blocks();
+    if settings.kind == 0 {
+        return Sizes { blocks, width: 0 };
+    }
     Sizes {
-        blocks: settings.blocks(),
+        blocks,
         width: settings.width(),
     }
 }

@@ -5,20 +5,35 @@ use mathlib.Core.Logic.{_≢_, ⊎-elim}
 use mathlib.Core.Path.{_≡_, _∙_, ap, refl, subst, sym}
 use Prim.Native.Nat.{ℕ, suc, _+_, _-_, _*_, _^_, _≤_, _<_}
 use native.Mathlib.Decide.{ℕ-discrete}
-use native.Mathlib.Nat.{eq-or-lt-of-le, le-of-suc-le-suc}
+use native.Mathlib.Nat.{eq-or-lt-of-le, le-of-suc-le-suc, mul-le-mul}
 use native.Mathlib.Numerals.{add-one}
 use native.Mathlib.Omega.{arith}
 use lib.ListN.{drop, getD, getD-replicate, length, length-append, length-set, set, take, List·getD-append}
 use lib.Seq.{getD-append-seam, getD-set-other, getD-set-same}
-use Rattle.laws.specs.Cut.{block-fits, length-block, low-block, part-block}
+use Rattle.laws.specs.Cut.{block-fits, blocks-cells, length-block, low-block, part-block}
+use Rattle.laws.specs.Lists.{sum-low}
 use Rattle.laws.specs.Stage.{absent-at}
 use Rattle.rules.specs.Batches.{entryOf}
 use Rattle.rules.specs.Cells.{Low, block, sum}
 use Rattle.rules.specs.SearchLaws.{pick-no}
 use Rattle.rules.specs.Stage.{Absent, Entry, Names, closed, index, indexes, liveWeights}
 use Rattle.stage.specs.LiveLaws.{absent-append, indexes-append, live-block-append, live-block-in, live-block-last, names-free, names-new, open-entry-append, open-entry-last, weights-append}
-use Rattle.stage.specs.Meaning.{BatchFits, ClosedFrom, FirstAt, Home, Passed, begun, entryAt, has, hasNot, liveBlock, withFree}
+use Rattle.stage.specs.Meaning.{BatchFits, ClosedFrom, FirstAt, Home, Passed, StageFits, begun, entryAt, has, hasNot, liveBlock, withFree}
 use Rattle.rules.specs.declared.Look.{Look}
+
+-- ---- what a stage asks keeps its numbers small
+
+module _ {len count w k L : ℕ} {cells batch : List ℕ} (f : StageFits len count w k L cells batch) where
+  -- a stage has at most 32,768 parity blocks
+  pub count-most : count ≤ 32768
+  count-most = omega (arith, blocks-cells len count (f .long), f .inside, f .short)
+
+  -- and none weighs more than 64 cells of 255 levels
+  pub weight-most : L ≤ 255 → (j v : ℕ) → j < count → v ≡ sum (block len cells j) → v ≤ 16320
+  weight-most g j v h e =
+      let n : length (block len cells j) ≡ len = length-block len cells j (omega (arith, block-fits len j count h, f .inside)) in
+      let l : sum (block len cells j) ≤ len * L = subst (λ (x : ℕ). sum (block len cells j) ≤ x * L) n (sum-low L (block len cells j) (low-block L len cells j (f .low))) in
+      omega (arith, mul-le-mul (f .brief) g)
 
 -- ---- the look for the next index block
 

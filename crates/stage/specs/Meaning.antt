@@ -119,7 +119,8 @@ pub record Turn (stage cell k W none len : ℕ) (cells : List ℕ) (L w : ℕ) (
 pub record StageFits (len count w k L : ℕ) (cells batch : List ℕ) : Type 0 where
   pub bits : 2 ≤ k
   pub few : k ≤ 64
-  pub long : 1 ≤ len
+  pub long : 2 ≤ len
+  pub brief : len ≤ 64
   pub inside : count * len ≤ length cells
   pub short : length cells ≤ 65536
   pub level : 1 ≤ L

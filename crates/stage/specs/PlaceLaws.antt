@@ -1,4 +1,4 @@
--- What follows from the scan of a stage: its check, the reading of each bit, the place of a change, and that no second scan fits. Assumes nothing.
+-- What follows from the scan of a stage: its check, the reading of each bit, and the place of a change. Assumes nothing.
 use mathlib.Core.List.{List, [], _∷_, map}
 use mathlib.Core.Path.{_≡_, _∙_, ap, ap₂, refl, subst, sym}
 use Prim.Native.Nat.{ℕ, zero, suc, _-_, _*_, _%_, _≤_, _<_}
@@ -198,5 +198,3 @@ stage-place {len = len} {count} {w} {k} {L} {cells} {batch} {s} f r i h =
     (λ l. free-home len count w k L cells batch f (r .as-many) i _ _ _ a (r .free) l)
     (λ m. let b : Absent 0 (indexes es) = home-nowhere W (length bs) 0 bs es (r .as-many) (omega arith) _ _ _ (r .free) (λ l. m (omega arith)) in
     at-none (within-none W L i bs es (r .as-many) a b) (omega (arith, r .as-many, names-few k i (indexes es) (r .names) h b a))))
-
--- ---- no second scan

@@ -51,7 +51,7 @@ fn weight_of(cells: &[u8], len: usize, j: usize) -> usize
 }
 
 // A scan of nothing so far.
-fn begin(stage: usize, cell: usize, none: usize) -> Look
+fn begin(stage: usize, cell: usize, none: u16) -> Look
     ensures { λ r. ⌜ r ≡ begun stage cell none ⌝ }
 {
     Look {
@@ -60,7 +60,7 @@ fn begin(stage: usize, cell: usize, none: usize) -> Look
         places: [none; 64],
         slots: [0; 64],
         weights: [0; 64],
-        free: none,
+        free: none as usize,
         free_slot: 0,
         free_weight: 0,
     }
@@ -119,7 +119,8 @@ pub fn scan_stage(
     ensures { λ r. ⌜ StageScanned stage cell k (len * top) (chop len count (now (cells .entry))) (entries top w (2 * (k - 1)) (now (batch .entry))) r ⌝ }
 {
     let step = run_blocks(len);
-    let mut s = begin(stage, cell, count);
+    let none = count as u16;
+    let mut s = begin(stage, cell, none);
     let mut next: usize = 0;
     let mut at: usize = 0;
     while at < count {
@@ -141,12 +142,12 @@ pub fn scan_stage(
             continue;
         }
         let bit = u - 1;
-        if k < u || s.places[bit] < count {
+        if k < u || s.places[bit] < none {
             return unsound();
         }
-        s.places[bit] = j;
-        s.slots[bit] = slot;
-        s.weights[bit] = v;
+        s.places[bit] = j as u16;
+        s.slots[bit] = slot as u8;
+        s.weights[bit] = v as u16;
     }
     ended(s, next_index(batch, w, 2 * (k - 1), top, next))
 }
@@ -156,9 +157,9 @@ pub fn place_in(s: Look, bit: usize, count: usize) -> StagePlace
     requires { ⌜ bit < 64 ⌝ }
     ensures { λ r. ⌜ r ≡ placeIn s bit count ⌝ }
 {
-    let place = s.places[bit];
+    let place = s.places[bit] as usize;
     if place < count {
-        return StagePlace::Own(place, s.slots[bit], s.weights[bit]);
+        return StagePlace::Own(place, s.slots[bit] as usize, s.weights[bit] as usize);
     }
     if s.free < count {
         return StagePlace::Free(s.free, s.free_slot, s.free_weight);

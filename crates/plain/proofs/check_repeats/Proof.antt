@@ -31,14 +31,8 @@ pairs-holds c = search needs
 loop-holds : tie.Need-loop-holds Inv-loop μ-loop Inv-pairs μ-pairs
 loop-holds c = search needs
 
-mul-if1 : tie.Need-mul-if1 Inv-loop μ-loop Inv-pairs μ-pairs
-mul-if1 c = search needs
-
 array-read-if1 : tie.Need-array-read-if1 Inv-loop μ-loop Inv-pairs μ-pairs
 array-read-if1 c = search needs
-
-mul-if1-2 : tie.Need-mul-if1-2 Inv-loop μ-loop Inv-pairs μ-pairs
-mul-if1-2 c = search needs
 
 array-read-if1-2 : tie.Need-array-read-if1-2 Inv-loop μ-loop Inv-pairs μ-pairs
 array-read-if1-2 c = search needs
@@ -91,9 +85,7 @@ check-repeats-spec =
     μ-pairs
     pairs-holds
     loop-holds
-    mul-if1
     array-read-if1
-    mul-if1-2
     array-read-if1-2
     add-earlier
     loop-less

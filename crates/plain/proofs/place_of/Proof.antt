@@ -12,11 +12,17 @@ mul-own c = search needs
 element-copy-out-own : tie.Need-element-copy-out-own
 element-copy-out-own c = search needs
 
+cast-own : tie.Need-cast-own
+cast-own c = search needs
+
 mul-t11 : tie.Need-mul-t11
 mul-t11 c = search needs
 
 element-copy-out-t14 : tie.Need-element-copy-out-t14
 element-copy-out-t14 c = search needs
+
+cast-t15 : tie.Need-cast-t15
+cast-t15 c = search needs
 
 returns : tie.Need-returns
 returns c = let a = c .before .before .before .args in sym (place-own (a .t1) (a .bit) (a .m) (omega arith))
@@ -33,8 +39,10 @@ place-of-spec =
     (tie.spec
     mul-own
     element-copy-out-own
+    cast-own
     mul-t11
     element-copy-out-t14
+    cast-t15
     returns
     returns-2
     returns-3)

@@ -32,6 +32,9 @@ cast-out c = search needs
 slice-write-out : tie.Need-slice-write-out Inv-loop μ-loop
 slice-write-out c = search needs
 
+cast-ones : tie.Need-cast-ones Inv-loop μ-loop
+cast-ones c = search needs
+
 add-ones : tie.Need-add-ones Inv-loop μ-loop
 add-ones c = search needs
 
@@ -74,6 +77,7 @@ write-bits-spec =
     array-read-value
     cast-out
     slice-write-out
+    cast-ones
     add-ones
     add-i
     loop-less

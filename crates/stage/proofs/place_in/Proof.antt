@@ -14,17 +14,23 @@ mul-place c = search needs
 element-copy-out-place : tie.Need-element-copy-out-place
 element-copy-out-place c = search needs
 
-mul-t11 : tie.Need-mul-t11
-mul-t11 c = search needs
+cast-place : tie.Need-cast-place
+cast-place c = search needs
 
-element-copy-out-t14 : tie.Need-element-copy-out-t14
-element-copy-out-t14 c = search needs
+element-copy-out-t13 : tie.Need-element-copy-out-t13
+element-copy-out-t13 c = search needs
+
+cast-t14 : tie.Need-cast-t14
+cast-t14 c = search needs
 
 mul-t15 : tie.Need-mul-t15
 mul-t15 c = search needs
 
 element-copy-out-t18 : tie.Need-element-copy-out-t18
 element-copy-out-t18 c = search needs
+
+cast-t19 : tie.Need-cast-t19
+cast-t19 c = search needs
 
 returns : tie.Need-returns
 unfolding placeIn
@@ -44,10 +50,12 @@ place-in-spec =
     (tie.spec
     mul-place
     element-copy-out-place
-    mul-t11
-    element-copy-out-t14
+    cast-place
+    element-copy-out-t13
+    cast-t14
     mul-t15
     element-copy-out-t18
+    cast-t19
     returns
     returns-2
     returns-3)

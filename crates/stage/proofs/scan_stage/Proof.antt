@@ -7,19 +7,23 @@ use native.Mathlib.Omega.{arith}
 use borrow.Author.Needs.{needs}
 use borrow.Author.Tests.{ltb-false, ltb-true}
 use Rattle.laws.specs.Cut.{block-fits}
+use Rattle.stage.specs.Laws.{count-most, weight-most}
 use Rattle.stage.specs.Meaning.{ScanAt, Turn}
 use Rattle.stage.specs.TurnLaws.{scan-begun, scan-ended, too-few, too-great, turn-begun, turn-first-free, turn-free, turn-full, turn-own, turn-past, twice}
 use Rattle.stage.proofs.scan_stage.Statement.{statement}
 use Rattle.stage.proofs.scan_stage.Tie as tie
 
 abbrev Inv-loop : tie.InvT-loop
-Inv-loop stage cell cells batch len count w k top step s₀ next₀ at₀ s next at = ScanAt stage cell k (len * top) count len cells top w batch (2 * (k - 1)) at next s
+Inv-loop stage cell cells batch len count w k top step none s₀ next₀ at₀ s next at = ScanAt stage cell k (len * top) count len cells top w batch (2 * (k - 1)) at next s
 
 abbrev μ-loop : tie.MeasureT-loop
-μ-loop stage cell cells batch len count w k top step s₀ next₀ at₀ s next at = count - at
+μ-loop stage cell cells batch len count w k top step none s₀ next₀ at₀ s next at = count - at
 
 run-blocks-requires : tie.Need-run-blocks-requires Inv-loop μ-loop
 run-blocks-requires c κs = search needs
+
+cast-none : tie.Need-cast-none Inv-loop μ-loop
+cast-none c = omega (arith, count-most (c .before .before .before .pre))
 
 begin-requires : tie.Need-begin-requires Inv-loop μ-loop
 begin-requires c κs = search needs
@@ -91,6 +95,15 @@ turn c =
     let v = f .before .before in
     turn-begun (v .before .before .loop .inv) (v .before .loop-test .taken) (v .weight-of .ensures) (f .before .if1 .left) (f .next-index .ensures) _ _ (c .before .slot .given .1)
 
+-- its parity block's number, and its weight, are small
+turn-small : (c : tie.After-known-told Inv-loop μ-loop) →
+    let v = c .before .before .before .before .before in
+    (v .before .before .loop .at ≤ 32768) × (v .weight-of .result ≤ 16320)
+turn-small c =
+    let v = c .before .before .before .before .before in
+    let o = v .before .before .before .before .before .before .before in
+    (omega (arith, turn c .a-block, count-most (o .pre)), weight-most (o .pre) (omega arith) _ _ (turn c .a-block) (turn c .weight))
+
 add-next : tie.Need-add-next Inv-loop μ-loop
 add-next c = omega (arith, turn c .an-index)
 
@@ -134,20 +147,26 @@ returns-2 c =
     let z : u ≡ suc (u - 1) = omega arith in
     ⊎-elim (λ w. too-great (turn t) (w .taken) (c .unsound2 .ensures)) (λ w. twice (turn t) (u - 1) z (omega (arith, w .0 .left)) (omega (arith, ltb-true, w .2 .taken)) (c .unsound2 .ensures)) (c .before .if4 .came)
 
+cast-s : tie.Need-cast-s Inv-loop μ-loop
+cast-s c = omega (arith, turn-small (c .before .before .before .before) .0)
+
 mul-s : tie.Need-mul-s Inv-loop μ-loop
 mul-s c = search needs
 
 element-write-s : tie.Need-element-write-s Inv-loop μ-loop
 element-write-s c = search needs
 
-mul-s-2 : tie.Need-mul-s-2 Inv-loop μ-loop
-mul-s-2 c = search needs
+cast-s-2 : tie.Need-cast-s-2 Inv-loop μ-loop
+cast-s-2 c = omega (arith, turn (c .before .before .before .before) .an-index)
 
 element-write-s-2 : tie.Need-element-write-s-2 Inv-loop μ-loop
 element-write-s-2 c = search needs
 
-mul-s-3 : tie.Need-mul-s-3 Inv-loop μ-loop
-mul-s-3 c = search needs
+cast-s-3 : tie.Need-cast-s-3 Inv-loop μ-loop
+cast-s-3 c = omega (arith, turn-small (c .before .before .before .before) .1)
+
+mul-s-2 : tie.Need-mul-s-2 Inv-loop μ-loop
+mul-s-2 c = search needs
 
 element-write-s-3 : tie.Need-element-write-s-3 Inv-loop μ-loop
 element-write-s-3 c = search needs
@@ -186,6 +205,7 @@ scan-stage-spec =
     Inv-loop
     μ-loop
     run-blocks-requires
+    cast-none
     begin-requires
     loop-holds
     weight-of-requires
@@ -212,11 +232,13 @@ scan-stage-spec =
     element-copy-out-if5
     unsound-requires-2
     returns-2
+    cast-s
     mul-s
     element-write-s
-    mul-s-2
+    cast-s-2
     element-write-s-2
-    mul-s-3
+    cast-s-3
+    mul-s-2
     element-write-s-3
     loop-less-4
     loop-again-4

@@ -26,6 +26,9 @@ mul-value-after c = search needs
 array-read-value-after : tie.Need-array-read-value-after Inv-loop μ-loop
 array-read-value-after c = search needs
 
+cast-value-after : tie.Need-cast-value-after Inv-loop μ-loop
+cast-value-after c = search needs
+
 value-after-requires : tie.Need-value-after-requires Inv-loop μ-loop
 value-after-requires c κs = search needs
 
@@ -63,6 +66,7 @@ values-after-spec =
     loop-holds
     mul-value-after
     array-read-value-after
+    cast-value-after
     value-after-requires
     mul-values
     array-write-values
