@@ -148,7 +148,7 @@ returns-2 c =
     ⊎-elim (λ w. too-great (turn t) (w .taken) (c .unsound2 .ensures)) (λ w. twice (turn t) (u - 1) z (omega (arith, w .0 .left)) (omega (arith, ltb-true, w .2 .taken)) (c .unsound2 .ensures)) (c .before .if4 .came)
 
 cast-s : tie.Need-cast-s Inv-loop μ-loop
-cast-s c = omega (arith, turn-small (c .before .before .before .before) .0)
+cast-s c = omega (arith, turn-small (c .before .before .before .before))
 
 mul-s : tie.Need-mul-s Inv-loop μ-loop
 mul-s c = search needs
@@ -163,7 +163,7 @@ element-write-s-2 : tie.Need-element-write-s-2 Inv-loop μ-loop
 element-write-s-2 c = search needs
 
 cast-s-3 : tie.Need-cast-s-3 Inv-loop μ-loop
-cast-s-3 c = omega (arith, turn-small (c .before .before .before .before) .1)
+cast-s-3 c = omega (arith, turn-small (c .before .before .before .before))
 
 mul-s-2 : tie.Need-mul-s-2 Inv-loop μ-loop
 mul-s-2 c = search needs
