@@ -11,7 +11,8 @@
    - nothing lent to one call for writing overlaps anything else that is lent to it.
 
    A refusal writes the value place and nothing else: no cell of a sheet, no place of an output.
-   The one exception is refused settings, which also write the record of zeros. */
+   The one exception is refused settings, which also write the record of zeros where seven places
+   are lent for it. */
 #ifndef HARPGINGER_H
 #define HARPGINGER_H
 

@@ -1,3 +1,2 @@
--- What crosses the C boundary.
-pub mod Meaning
+-- The law of what crosses the C boundary.
 pub mod Laws

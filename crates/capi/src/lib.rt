@@ -1,9 +1,8 @@
 // The C interface: the four calls over numbers and lent bytes. A settings record crosses as seven numbers that the caller owns. Assumes nothing.
 use rules::Settings;
 ghost use mathlib.Core.Path.{_≡_};
-ghost use Rattle.rules.specs.Answer.{numberOf, valueOf};
-ghost use Rattle.rules.specs.Calls.{settingsCall, eraseCall, readCall, changeCall};
-ghost use Rattle.capi.specs.Meaning.{recordOf, answerInto, recordInto};
+ghost use Rattle.rules.specs.Interface.{recordOf};
+ghost use Rattle.rules.specs.Promises.{SettingsIntoPromise, EraseByPromise, ReadByPromise, ChangeByPromise};
 
 // The record that seven numbers stand for; any other count of numbers stands for the record of zeros.
 fn record_of(numbers: &[usize]) -> Settings
@@ -23,7 +22,7 @@ fn record_of(numbers: &[usize]) -> Settings
     }
 }
 
-// Settings: the record is written as seven numbers, of zeros where the settings are refused. The answer's number; its value is written.
+// Settings: the record is written as seven numbers, of zeros where the settings are refused; other than seven places is BadShape, and none is written. Hands back the answer's number and writes its value.
 #[no_mangle]
 pub extern "C" fn harpginger_settings(
     kind: usize,
@@ -33,9 +32,7 @@ pub extern "C" fn harpginger_settings(
     numbers: &mut [usize],
     value: &mut usize,
 ) -> usize
-    ensures { λ r. ⌜ r ≡ numberOf (answerInto (now (numbers .entry)) (settingsCall kind k top n)) ⌝ }
-    ensures { λ _. ⌜ now (value .exit) ≡ valueOf (answerInto (now (numbers .entry)) (settingsCall kind k top n)) ⌝ }
-    ensures { λ _. ⌜ now (numbers .exit) ≡ recordInto (now (numbers .entry)) (settingsCall kind k top n) ⌝ }
+    ensures { λ r. ⌜ SettingsIntoPromise kind k top n (now (numbers .entry)) r (now (value .exit)) (now (numbers .exit)) ⌝ }
 {
     if numbers.len() != 7 {
         *value = 0;
@@ -55,12 +52,10 @@ pub extern "C" fn harpginger_settings(
     answer.number()
 }
 
-// Erase: all n cells are set to 0. The answer's number; its value is written.
+// Erase: all n cells are set to 0. Hands back the answer's number and writes its value.
 #[no_mangle]
 pub extern "C" fn harpginger_erase(numbers: &[usize], sheet: &mut [u8], value: &mut usize) -> usize
-    ensures { λ r. ⌜ r ≡ numberOf (eraseCall (recordOf (now (numbers .entry))) (now (sheet .entry)) .answer) ⌝ }
-    ensures { λ _. ⌜ now (value .exit) ≡ valueOf (eraseCall (recordOf (now (numbers .entry))) (now (sheet .entry)) .answer) ⌝ }
-    ensures { λ _. ⌜ now (sheet .exit) ≡ eraseCall (recordOf (now (numbers .entry))) (now (sheet .entry)) .sheet ⌝ }
+    ensures { λ r. ⌜ EraseByPromise (now (numbers .entry)) (now (sheet .entry)) r (now (value .exit)) (now (sheet .exit)) ⌝ }
 {
     let settings = record_of(numbers);
     let answer = sheet::erase(settings, sheet);
@@ -68,7 +63,7 @@ pub extern "C" fn harpginger_erase(numbers: &[usize], sheet: &mut [u8], value: &
     answer.number()
 }
 
-// Read: the k bits are written, 0 or 1, bit 0 first. The answer's number; its value is written.
+// Read: the k bits are written, 0 or 1, bit 0 first. Hands back the answer's number and writes its value.
 #[no_mangle]
 pub extern "C" fn harpginger_read(
     numbers: &[usize],
@@ -76,9 +71,7 @@ pub extern "C" fn harpginger_read(
     out: &mut [u8],
     value: &mut usize,
 ) -> usize
-    ensures { λ r. ⌜ r ≡ numberOf (readCall (recordOf (now (numbers .entry))) (now (sheet .entry)) (now (out .entry)) .answer) ⌝ }
-    ensures { λ _. ⌜ now (value .exit) ≡ valueOf (readCall (recordOf (now (numbers .entry))) (now (sheet .entry)) (now (out .entry)) .answer) ⌝ }
-    ensures { λ _. ⌜ now (out .exit) ≡ readCall (recordOf (now (numbers .entry))) (now (sheet .entry)) (now (out .entry)) .places ⌝ }
+    ensures { λ r. ⌜ ReadByPromise (now (numbers .entry)) (now (sheet .entry)) (now (out .entry)) r (now (value .exit)) (now (out .exit)) ⌝ }
 {
     let settings = record_of(numbers);
     let answer = sheet::read(settings, sheet, out);
@@ -86,7 +79,7 @@ pub extern "C" fn harpginger_read(
     answer.number()
 }
 
-// Change of one bit: the levels raised, or Erase. The answer's number; its value is written.
+// Change of one bit: the sheet of the encoding map, or Erase where it finds no place. Hands back the answer's number and writes its value.
 #[no_mangle]
 pub extern "C" fn harpginger_change(
     numbers: &[usize],
@@ -94,9 +87,7 @@ pub extern "C" fn harpginger_change(
     bit: usize,
     value: &mut usize,
 ) -> usize
-    ensures { λ r. ⌜ r ≡ numberOf (changeCall (recordOf (now (numbers .entry))) (now (sheet .entry)) bit .answer) ⌝ }
-    ensures { λ _. ⌜ now (value .exit) ≡ valueOf (changeCall (recordOf (now (numbers .entry))) (now (sheet .entry)) bit .answer) ⌝ }
-    ensures { λ _. ⌜ now (sheet .exit) ≡ changeCall (recordOf (now (numbers .entry))) (now (sheet .entry)) bit .sheet ⌝ }
+    ensures { λ r. ⌜ ChangeByPromise (now (numbers .entry)) (now (sheet .entry)) bit r (now (value .exit)) (now (sheet .exit)) ⌝ }
 {
     let settings = record_of(numbers);
     let answer = sheet::change(settings, sheet, bit);

@@ -86,7 +86,7 @@ fn put_answer(out: &mut [u8], at: usize, answer: Answer) -> usize
 
 // Puts a record's line: answer, value, sum of levels and bits of the sheet held.
 fn put_line(out: &mut [u8], at: usize, answer: Answer, held: Settings, cells: &[u8]) -> usize
-    requires { ⌜ (at + 128 ≤ length (now out)) × (length (now cells) ≤ 65536) ⌝ }
+    requires { ⌜ at + 128 ≤ length (now out) ⌝ }
     ensures { λ r. ⌜ r ≤ at + 128 ⌝ }
 {
     let a = put_answer(out, at, answer);
@@ -120,7 +120,7 @@ fn record_end(bytes: &[u8], a: usize) -> usize
 
 // Obeys the records of one piece of the input, and answers the settings then held.
 fn obey_piece(bytes: &[u8], start: Settings, cells: &mut [u8], out: &mut [u8]) -> Settings
-    requires { ⌜ (length (now cells) ≤ 65536) × (128 ≤ length (now out)) ⌝ }
+    requires { ⌜ 128 ≤ length (now out) ⌝ }
 {
     let mut held = start;
     let mut at: usize = 0;

@@ -14,10 +14,12 @@ use Rattle.rules.specs.Search.{Found, Result, done, noPlace}
 use Rattle.rules.specs.SearchLaws.{pick-yes, pick-no, First, hit, miss, first-is, first-eq}
 use Rattle.rules.specs.Cells.{sum, Low, firstAbove}
 use Rattle.rules.specs.Accept.{Genuine, genuine?, guarantee}
+use Rattle.rules.specs.Answer.{sortOf}
+use Rattle.rules.specs.AnswerLaws.{IsRefusal, not-made, not-done-made}
 use Rattle.rules.specs.Calls.{Check, Pass, Refuse, Sound, sound?, changeSheet, ask, asCheck, andThen, levelCheck, checkShape, checkLength, checkOutput, checkBit, checkLevels, checkSheet, eraseChecks, sheetChecks, readChecks, changeChecks, Outcome, erasing, eraseCall, changed, changing, changeCall, reading, readCall}
 use Rattle.rules.specs.declared.Settings.{Settings}
 use Rattle.rules.specs.declared.Answer.{Answer}
-use Rattle.rules.specs.declared.Answer.the-variants.{Done, BadShape, BadLength, ShortOutput, BadBit, BadLevel, BadSheet, Erase, BadRecord}
+use Rattle.rules.specs.declared.Answer.the-variants.{Done, BadShape, BadLength, ShortOutput, BadBit, BadLevel, BadSheet, Erase}
 
 -- a sheet that every call accepts
 pub record Accepted (r : Settings) (xs : List ℕ) : Type 0 where
@@ -30,15 +32,7 @@ pub record Accepted (r : Settings) (xs : List ℕ) : Type 0 where
 
 -- the answer of a check that refuses: neither Done nor Erase
 abbrev pub Refusal : Answer → Type 0
-Refusal (Done v) = ⊥
-Refusal BadShape = Unit {0}
-Refusal BadLength = Unit {0}
-Refusal ShortOutput = Unit {0}
-Refusal BadBit = Unit {0}
-Refusal (BadLevel c) = Unit {0}
-Refusal BadSheet = Unit {0}
-Refusal Erase = ⊥
-Refusal BadRecord = Unit {0}
+Refusal a = IsRefusal (sortOf a)
 
 -- what a check found: it passed, and what it asks for holds; or it refused with a refusal's answer
 pub data Checked (A : Type 0) : Check → Type 0 where
@@ -110,21 +104,17 @@ then-goes d e = ap (λ (x : Check). andThen x d) e
 
 -- ---- a check as a call answers it
 
--- an answer that is told by its tag to be one of the refusals isn't Done
-pub not-done : (a : Answer) → OneOf (1 ∷ 2 ∷ 3 ∷ 4 ∷ 5 ∷ 6 ∷ 7 ∷ 8 ∷ []) (tagOf the-type a) → (v : ℕ) → a ≢ Done v
-not-done a o v e = no-key (1 ∷ 2 ∷ 3 ∷ 4 ∷ 5 ∷ 6 ∷ 7 ∷ 8 ∷ []) 0 tt (subst (λ (x : Answer). OneOf (1 ∷ 2 ∷ 3 ∷ 4 ∷ 5 ∷ 6 ∷ 7 ∷ 8 ∷ []) (tagOf the-type x)) e o)
+-- the tags of every answer but Done
+abbrev pub otherTags : List ℕ
+otherTags = 1 ∷ 2 ∷ 3 ∷ 4 ∷ 5 ∷ 6 ∷ 7 ∷ 8 ∷ []
+
+-- an answer that is told by its tag to be one of these isn't Done
+pub not-done : (a : Answer) → OneOf otherTags (tagOf the-type a) → (v : ℕ) → a ≢ Done v
+not-done a o v e = no-key otherTags 0 tt (subst (λ (x : Answer). OneOf otherTags (tagOf the-type x)) e o)
 
 -- an answer that isn't Done is its own refusal
 pub refusal-told : (a : Answer) → ((v : ℕ) → a ≢ Done v) → asCheck a ≡ Refuse a
-refusal-told (Done v) n = absurd (n v refl)
-refusal-told BadShape n = refl
-refusal-told BadLength n = refl
-refusal-told ShortOutput n = refl
-refusal-told BadBit n = refl
-refusal-told (BadLevel c) n = refl
-refusal-told BadSheet n = refl
-refusal-told Erase n = refl
-refusal-told BadRecord n = refl
+refusal-told a n = not-made (sortOf a) Pass (Refuse a) (not-done-made a n)
 
 -- a check that refuses ends the call there
 pub ends-there : (a : Answer) {c : Check} (d : Check) → asCheck a ≡ c → ((v : ℕ) → a ≢ Done v) → asCheck a ≡ andThen c d

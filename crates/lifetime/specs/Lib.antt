@@ -7,9 +7,13 @@ pub mod Staged
 pub mod Storage
 pub mod Batches
 pub mod Change
+pub mod OneCell
 pub mod Place
 pub mod Run
 pub mod OneOutcome
+pub mod Programs
 pub mod Refusals
+pub mod Readings
 pub mod Impostors
 pub mod Pretending
+pub mod Onward

@@ -1,91 +1,114 @@
--- No second outcome: whatever meets a call's promise for one input is one and the same. Assumes nothing.
-use mathlib.Core.Path.{_≡_, sym, ap, _∙_}
-use mathlib.Core.Bool.{Bool, true, false}
+-- No second outcome: whatever meets a public call's promise for one input is one and the same. Assumes nothing.
+use mathlib.Core.Path.{_≡_, sym, _∙_}
+use mathlib.Core.Bool.{Bool}
 use mathlib.Core.List.{List}
 use Prim.Native.Nat.{ℕ}
-use Rattle.rules.specs.Search.{pick}
 use Rattle.rules.specs.Answer.{numberOf, valueOf}
-use Rattle.rules.specs.Accept.{accept, genuine?, promised, blockCount, widthOf, batchStart}
-use Rattle.rules.specs.Calls.{Outcome, Reading}
-use Rattle.rules.specs.Promises.{outcome, readOut, SettingsPromise, ErasePromise, ChangePromise, ReadPromise}
+use Rattle.rules.specs.AnswerLaws.{answer-one}
+use Rattle.rules.specs.Promises.{Gives, SettingsPromise, ErasePromise, ReadPromise, ChangePromise, WorkOutPromise, GenuinePromise, GuaranteePromise, BlocksPromise, WidthPromise, BatchStartPromise, NumberPromise, ValuePromise, RecordPromise, SumPromise, BitsPromise, SettingsIntoPromise, EraseByPromise, ReadByPromise, ChangeByPromise}
 use Rattle.rules.specs.declared.Settings.{Settings}
-use Rattle.rules.specs.declared.Setup.{Setup}
 use Rattle.rules.specs.declared.Answer.{Answer}
 
--- a promise is an equation, and two things equal to a third are equal
-pub one-outcome : {A : Type 0} {x y z : A} → x ≡ z → y ≡ z → x ≡ y
-one-outcome p q = p ∙ sym q
+-- two things equal to a third are equal
+pub both-equal : {A : Type 0} {x y z : A} → x ≡ z → y ≡ z → x ≡ y
+both-equal p q = p ∙ sym q
 
--- ---- the calls
+-- two outcomes are one: the same number, the same value, and the same thing left
+pub record One {A : Type 0} (n m v w : ℕ) (x y : A) : Type 0 where
+  pub number : n ≡ m
+  pub value : v ≡ w
+  pub leaves : x ≡ y
 
--- two answers are one: number and value too
-pub record OneAnswer (a b : Answer) : Type 0 where
-  pub answer : a ≡ b
-  pub number : numberOf a ≡ numberOf b
-  pub value : valueOf a ≡ valueOf b
+-- what gives the same answer and leaves the same is one
+gives-one : {A : Type 0} {a : Answer} {left : A} {n m v w : ℕ} {x y : A} → Gives a left n v x → Gives a left m w y → One n m v w x y
+gives-one p q = record { number = both-equal (p .number) (q .number); value = both-equal (p .value) (q .value); leaves = both-equal (p .leaves) (q .leaves) }
 
--- equal answers have one number and one value
-answers-one : {a b : Answer} → a ≡ b → OneAnswer a b
-answers-one e = record { answer = e; number = ap numberOf e; value = ap valueOf e }
+-- and so is the answer itself, where the call hands one back
+pub one-answer : {A : Type 0} (a b : Answer) {x y : A} → One (numberOf a) (numberOf b) (valueOf a) (valueOf b) x y → a ≡ b
+one-answer a b o = answer-one (o .number) (o .value)
 
--- settings: one answer and one record
-pub settings-one : (kind k L n : ℕ) (x y : Setup) → SettingsPromise kind k L n x → SettingsPromise kind k L n y → OneAnswer (x .answer) (y .answer) × (x .settings ≡ y .settings) × (x ≡ y)
-settings-one kind k L n x y p q =
-    let e : x ≡ y = one-outcome p q in
-    (answers-one (ap (λ (z : Setup). z .answer) e), ap (λ (z : Setup). z .settings) e, e)
+-- ---- the sheet library
 
--- one answer and one sheet of two equal outcomes
-same-outcome : {a b : Answer} {ys zs : List ℕ} → outcome a ys ≡ outcome b zs → OneAnswer a b × (ys ≡ zs)
-same-outcome e = (answers-one (ap (λ (o : Outcome). o .answer) e), ap (λ (o : Outcome). o .sheet) e)
+-- settings: one number, value and record
+pub settings-one : (kind k L n : ℕ) (c d v w : ℕ) (r t : Settings) → SettingsPromise kind k L n c v r → SettingsPromise kind k L n d w t → One c d v w r t
+settings-one kind k L n c d v w r t p q = gives-one p q
 
--- erase: one answer and one sheet after
-pub erase-one : (r : Settings) (xs : List ℕ) (a b : Answer) (ys zs : List ℕ) → ErasePromise r xs a ys → ErasePromise r xs b zs → OneAnswer a b × (ys ≡ zs)
-erase-one r xs a b ys zs p q = same-outcome (one-outcome p q)
+-- erase: one number, value and sheet after
+pub erase-one : (r : Settings) (xs : List ℕ) (c d v w : ℕ) (ys zs : List ℕ) → ErasePromise r xs c v ys → ErasePromise r xs d w zs → One c d v w ys zs
+erase-one r xs c d v w ys zs p q = gives-one p q
 
--- change: one answer and one sheet after
-pub change-one : (r : Settings) (xs : List ℕ) (i : ℕ) (a b : Answer) (ys zs : List ℕ) → ChangePromise r xs i a ys → ChangePromise r xs i b zs → OneAnswer a b × (ys ≡ zs)
-change-one r xs i a b ys zs p q = same-outcome (one-outcome p q)
+-- read: one number, value and output after
+pub read-one : (r : Settings) (xs out : List ℕ) (c d v w : ℕ) (ps qs : List ℕ) → ReadPromise r xs out c v ps → ReadPromise r xs out d w qs → One c d v w ps qs
+read-one r xs out c d v w ps qs p q = gives-one p q
 
--- one answer and one output of two equal readings
-same-reading : {a b : Answer} {ps qs : List ℕ} → readOut a ps ≡ readOut b qs → OneAnswer a b × (ps ≡ qs)
-same-reading e = (answers-one (ap (λ (o : Reading). o .answer) e), ap (λ (o : Reading). o .places) e)
+-- change: one number, value and sheet after
+pub change-one : (r : Settings) (xs : List ℕ) (i : ℕ) (c d v w : ℕ) (ys zs : List ℕ) → ChangePromise r xs i c v ys → ChangePromise r xs i d w zs → One c d v w ys zs
+change-one r xs i c d v w ys zs p q = gives-one p q
 
--- read: one answer and one output after
-pub read-one : (r : Settings) (xs out : List ℕ) (a b : Answer) (ps qs : List ℕ) → ReadPromise r xs out a ps → ReadPromise r xs out b qs → OneAnswer a b × (ps ≡ qs)
-read-one r xs out a b ps qs p q = same-reading (one-outcome p q)
-
--- ---- the methods of the settings record
+-- ---- the methods of a settings record
 
 -- the record worked out for any four numbers
-pub work-out-one : (kind k L n : ℕ) (a b : Settings) → a ≡ accept kind k L n → b ≡ accept kind k L n → a ≡ b
-work-out-one kind k L n a b p q = one-outcome p q
+pub work-out-one : (kind k L n : ℕ) (a b : Settings) → WorkOutPromise kind k L n a → WorkOutPromise kind k L n b → a ≡ b
+work-out-one kind k L n a b p q = both-equal p q
 
 -- whether acceptance gives the record
-pub genuine-one : (r : Settings) (a b : Bool) → a ≡ pick (genuine? r) true false → b ≡ pick (genuine? r) true false → a ≡ b
-genuine-one r a b p q = one-outcome p q
+pub genuine-one : (r : Settings) (a b : Bool) → GenuinePromise r a → GenuinePromise r b → a ≡ b
+genuine-one r a b p q = both-equal p q
 
 -- the guarantee
-pub guarantee-one : (r : Settings) (a b : ℕ) → a ≡ promised r → b ≡ promised r → a ≡ b
-guarantee-one r a b p q = one-outcome p q
+pub guarantee-one : (r : Settings) (a b : ℕ) → GuaranteePromise r a → GuaranteePromise r b → a ≡ b
+guarantee-one r a b p q = both-equal p q
 
 -- the number of blocks
-pub blocks-one : (r : Settings) (a b : ℕ) → a ≡ blockCount r → b ≡ blockCount r → a ≡ b
-blocks-one r a b p q = one-outcome p q
+pub blocks-one : (r : Settings) (a b : ℕ) → BlocksPromise r a → BlocksPromise r b → a ≡ b
+blocks-one r a b p q = both-equal p q
 
--- the width of an index block
-pub width-one : (r : Settings) (a b : ℕ) → a ≡ widthOf r → b ≡ widthOf r → a ≡ b
-width-one r a b p q = one-outcome p q
+-- the cells of an index block
+pub width-one : (r : Settings) (a b : ℕ) → WidthPromise r a → WidthPromise r b → a ≡ b
+width-one r a b p q = both-equal p q
 
--- where a batch starts
-pub batch-start-one : (r : Settings) (batch a b : ℕ) → a ≡ batchStart r batch → b ≡ batchStart r batch → a ≡ b
-batch-start-one r batch a b p q = one-outcome p q
+-- the first cell of a batch
+pub batch-start-one : (r : Settings) (batch a b : ℕ) → BatchStartPromise r batch a → BatchStartPromise r batch b → a ≡ b
+batch-start-one r batch a b p q = both-equal p q
 
 -- ---- the methods of an answer
 
 -- its number
-pub number-one : (x : Answer) (a b : ℕ) → a ≡ numberOf x → b ≡ numberOf x → a ≡ b
-number-one x a b p q = one-outcome p q
+pub number-one : (x : Answer) (a b : ℕ) → NumberPromise x a → NumberPromise x b → a ≡ b
+number-one x a b p q = both-equal p q
 
 -- its value
-pub value-one : (x : Answer) (a b : ℕ) → a ≡ valueOf x → b ≡ valueOf x → a ≡ b
-value-one x a b p q = one-outcome p q
+pub value-one : (x : Answer) (a b : ℕ) → ValuePromise x a → ValuePromise x b → a ≡ b
+value-one x a b p q = both-equal p q
+
+-- ---- a record of the program
+
+-- one record: one number, value, settings held and cells after
+pub record-one : (rec : List ℕ) (r : Settings) (xs : List ℕ) (c d v w : ℕ) (s t : Settings) (ys zs : List ℕ) → RecordPromise rec r xs c v s ys → RecordPromise rec r xs d w t zs → One {A = Settings × List ℕ} c d v w (s, ys) (t, zs)
+record-one rec r xs c d v w s t ys zs p q = gives-one p q
+
+-- the sum of the levels of the sheet held
+pub sum-one : (r : Settings) (xs : List ℕ) (a b : ℕ) → SumPromise r xs a → SumPromise r xs b → a ≡ b
+sum-one r xs a b p q = both-equal p q
+
+-- its bits: how many, and the places after
+pub bits-one : (r : Settings) (xs out : List ℕ) (a b : ℕ) (ps qs : List ℕ) → BitsPromise r xs out a ps → BitsPromise r xs out b qs → (a ≡ b) × (ps ≡ qs)
+bits-one r xs out a b ps qs p q = (both-equal (p .0) (q .0), both-equal (p .1) (q .1))
+
+-- ---- the C functions
+
+-- settings: one number, value and numbers after
+pub settings-into-one : (kind k L n : ℕ) (numbers : List ℕ) (c d v w : ℕ) (xs ys : List ℕ) → SettingsIntoPromise kind k L n numbers c v xs → SettingsIntoPromise kind k L n numbers d w ys → One c d v w xs ys
+settings-into-one kind k L n numbers c d v w xs ys p q = gives-one p q
+
+-- erase: one number, value and sheet after
+pub erase-by-one : (numbers xs : List ℕ) (c d v w : ℕ) (ys zs : List ℕ) → EraseByPromise numbers xs c v ys → EraseByPromise numbers xs d w zs → One c d v w ys zs
+erase-by-one numbers xs c d v w ys zs p q = gives-one p q
+
+-- read: one number, value and output after
+pub read-by-one : (numbers xs out : List ℕ) (c d v w : ℕ) (ps qs : List ℕ) → ReadByPromise numbers xs out c v ps → ReadByPromise numbers xs out d w qs → One c d v w ps qs
+read-by-one numbers xs out c d v w ps qs p q = gives-one p q
+
+-- change: one number, value and sheet after
+pub change-by-one : (numbers xs : List ℕ) (i : ℕ) (c d v w : ℕ) (ys zs : List ℕ) → ChangeByPromise numbers xs i c v ys → ChangeByPromise numbers xs i d w zs → One c d v w ys zs
+change-by-one numbers xs i c d v w ys zs p q = gives-one p q

@@ -2,7 +2,7 @@
 use mathlib.Core.Path.{_≡_, refl, sym, ap, _∙_, subst}
 use mathlib.Core.Logic.{_↔_, ⊎-elim}
 use mathlib.Core.List.{List}
-use Prim.Native.Nat.{ℕ, zero, suc, _-_, _*_, _^_, _<_}
+use Prim.Native.Nat.{ℕ, zero, suc, _-_, _*_, _^_, _≤_, _<_}
 use native.Mathlib.Nat.{not-suc-le-zero, le-refl, lt-of-not-le, eq-or-lt-of-le, le-of-suc-le-suc}
 use native.Mathlib.Decide.{ℕ-discrete, decLe}
 use native.Mathlib.Omega.{arith}
@@ -13,7 +13,7 @@ use Rattle.rules.specs.Plain.{HasBit, hasBit?, IsEmpty, isEmpty?, planFrom, pla
 use Rattle.rules.specs.Plain as R
 use Rattle.rules.specs.Cells.{tabulate}
 use Rattle.rules.specs.Stage.{Entry, indexes, Absent, Within, stay, beyond, chosen, changeWithin}
-use Rattle.rules.specs.Staged.{Sheet, stage0, staged, parityLength, parityBlocks, liveCount, later, after, read, fromStage0, fromStaged, change, written, changeCells}
+use Rattle.rules.specs.Staged.{Sheet, stage0, staged, parityLength, parityBlocks, liveCount, moveTo, later, after, read, fromStage0, fromStaged, change, written, changeCells}
 use Rattle.laws.specs.Stage.{absent-at, at-absent}
 use Rattle.laws.specs.PlainMaps.{NoBlock}
 
@@ -55,13 +55,40 @@ module _ (k L m i : ℕ) (xs : List ℕ) where
 
 -- ---- later stages
 
+-- what holds at d and below it holds below d + 1
+below-next : (P : ℕ → Type 0) (d : ℕ) → P d → ((e : ℕ) → e < d → P e) → (e : ℕ) → e < suc d → P e
+below-next P d p b e l = ⊎-elim (λ q. subst P (sym q) p) (b e) (eq-or-lt-of-le (le-of-suc-le-suc l))
+
+-- the stage that a change goes on to: the first after the one with d left in which at least k parity blocks aren't full
+pub record NextStage (s m L d : ℕ) (xs vs : List ℕ) (y : Sheet) : Type 0 where
+  -- the stages left there
+  pub left : ℕ
+  pub after : left < d
+  pub is : y ≡ moveTo s m L left xs vs
+  pub enough : 2 ^ s ≤ liveCount s m L left xs
+  pub first : (e : ℕ) → left < e → e < d → liveCount s m L e xs < 2 ^ s
+
+-- a later stage found is that one
+pub later-first : (s m L d : ℕ) (xs vs : List ℕ) (y : Sheet) → later s m L d xs vs ≡ done y → NextStage s m L d xs vs y
+later-first s m L zero xs vs y e = absurd (apart (sym e))
+later-first s m L (suc d) xs vs y e = pick-elim (λ (r : Result Sheet). r ≡ done y → NextStage s m L (suc d) xs vs y) (decLe (2 ^ s) (liveCount s m L d xs)) _ _
+    (λ q z. record { left = d; after = le-refl (suc d); is = cc; enough = q; first = λ c h l. absurd (omega arith) })
+    (λ q z. let n : NextStage s m L d xs vs y = later-first s m L d xs vs y z in
+    record {
+      left = n .left;
+      after = omega (arith, n .after);
+      is = n .is;
+      enough = n .enough;
+      first = λ c h l. below-next (λ x. n .left < x → liveCount s m L x xs < 2 ^ s) d (λ _. lt-of-not-le q) (λ x b a. n .first x a b) c l h;
+    }) e
+
 module _ (s m L : ℕ) (xs vs : List ℕ) where
   -- no later stage found: none is left
   later-none : (d : ℕ) → later s m L d xs vs ≡ noPlace → NoStageLeft s m L d xs
-  later-none zero e c l = absurd (not-suc-le-zero l)
-  later-none (suc d) e c l = pick-elim (λ r. r ≡ noPlace → liveCount s m L c xs < 2 ^ s) (decLe (2 ^ s) (liveCount s m L d xs)) _ _
+  later-none zero e = λ c l. absurd (not-suc-le-zero l)
+  later-none (suc d) e = pick-elim (λ r. r ≡ noPlace → NoStageLeft s m L (suc d) xs) (decLe (2 ^ s) (liveCount s m L d xs)) _ _
       (λ q z. absurd (apart z))
-      (λ q z. ⊎-elim (λ y. subst (λ (x : ℕ). liveCount s m L x xs < 2 ^ s) (sym y) (lt-of-not-le q)) (λ y. later-none d z c y) (eq-or-lt-of-le (le-of-suc-le-suc l))) e
+      (λ q z. below-next (λ c. liveCount s m L c xs < 2 ^ s) d (lt-of-not-le q) (later-none d z)) e
 
   -- and conversely
   none-later : (d : ℕ) → NoStageLeft s m L d xs → later s m L d xs vs ≡ noPlace

@@ -4,13 +4,12 @@ use mathlib.Core.Logic.{_≢_, _⊎_, inl, inr, ⊎-elim}
 use mathlib.Core.List.{List, _++_}
 use Prim.Native.Nat.{ℕ, zero, suc, _+_, _-_, _*_, _^_, _≤_, _<_}
 use native.Mathlib.Nat.{le-refl}
-use native.Mathlib.Decide.{ℕ-discrete, decLe}
+use native.Mathlib.Decide.{ℕ-discrete}
 use native.Mathlib.Omega.{arith}
 use lib.ListN.{length, getD, drop, replicate, length-replicate, take-append-drop}
 use lib.Seq.{drop-at}
 use lib.Pow.{pow-mono}
 use Rattle.rules.specs.Search.{Result, done, noPlace}
-use Rattle.rules.specs.SearchLaws.{pick-elim}
 use Rattle.rules.specs.Cells.{sum, tabulate}
 use Rattle.rules.specs.Plain as R
 use Rattle.rules.specs.Stage.{Entry}
@@ -22,8 +21,10 @@ use Rattle.rules.specs.AcceptLaws.{StagedFacts, staged-bits}
 use Rattle.rules.specs.GuaranteeLaws.{guarantee-staged}
 use Rattle.rules.specs.Calls.{readBit, changeSheet, Outcome, changeCall}
 use Rattle.rules.specs.Promises.{ChangePromise}
+use Rattle.rules.specs.PromiseLaws.{by-number}
 use Rattle.rules.specs.declared.Settings.{Settings}
-use Rattle.rules.specs.declared.Answer.the-variants.{Done, Erase}
+use Rattle.rules.specs.Answer.{numberOf}
+use Rattle.rules.specs.declared.Answer.the-variants.{Erase}
 use Rattle.laws.specs.Lists.{take-replicate}
 use Rattle.laws.specs.PlainSheet as P
 use Rattle.laws.specs.Calls.{Accepted}
@@ -34,12 +35,14 @@ use Rattle.lifetime.specs.Staged.{stagesLeft}
 use Rattle.laws.specs.Kinds.{staged-read, staged-change}
 use Rattle.lifetime.specs.Change.{Made, erase-tells, erase-answered, done-answered, means, back, Clean, many, below, stored, staged-is}
 use Rattle.lifetime.specs.Run.{counted, Run, call, blank-run, run-accepted, erase-late}
-use Rattle.lifetime.specs.Impostors.{ChangeProgram, ReadProgram, KeepsChange, KeepsRead, answered, two, even, reads-bit, promised-made}
+use Rattle.lifetime.specs.Programs.{Word, Bytes, Words, ChangeProgram, ReadProgram, ChangeKept, KeepsChange, KeepsRead, kept-on}
+use Rattle.lifetime.specs.Place.{NextStage, later-first}
+use Rattle.lifetime.specs.Impostors.{two, even, reads-bit, promised-made}
 
 -- ---- at every stage from 1 up
 
 -- what a change that is made does on a staged sheet with d stages left, blocks bs and index blocks es
-pub record AtStage (r : Settings) (xs : List ℕ) (i d : ℕ) (bs : List ℕ) (es : List Entry) (ys : List ℕ) : Type 0 where
+pub record AtLaterStage (r : Settings) (xs : List ℕ) (i d : ℕ) (bs : List ℕ) (es : List Entry) (ys : List ℕ) : Type 0 where
   -- every bit's reading is that of the stage's decoding map
   pub before : (b : ℕ) → readBit r xs b ≡ S.read (r .s) (r .m) (r .top) (staged d bs es) b
   -- the sheet after is accepted; the named bit flips and no other moves
@@ -47,9 +50,9 @@ pub record AtStage (r : Settings) (xs : List ℕ) (i d : ℕ) (bs : List ℕ) (e
   pub flips : readBit r ys i ≡ 1 - S.read (r .s) (r .m) (r .top) (staged d bs es) i
   pub keeps : (b : ℕ) → b < r .k → b ≢ i → readBit r ys b ≡ S.read (r .s) (r .m) (r .top) (staged d bs es) b
 
--- at every stage from 1 up: an outcome Done that meets the promise flips the named bit's reading
+-- at every stage from 1 up: number 0 that meets the promise flips the named bit's reading
 pub promised-stage : (r : Settings) → StagedFacts r → (xs : List ℕ) (i v d : ℕ) (bs : List ℕ) (es : List Entry) (ys : List ℕ) →
-    decode (r .s) (r .m) (r .top) (r .w) xs ≡ staged d bs es → ChangePromise r xs i (Done v) ys → AtStage r xs i d bs es ys
+    decode (r .s) (r .m) (r .top) (r .w) xs ≡ staged d bs es → ChangePromise r xs i 0 v ys → AtLaterStage r xs i d bs es ys
 unfolding readCells
 promised-stage r f xs i v d bs es ys e promise =
     let h : Made r xs i v ys = promised-made r xs i v ys promise in
@@ -62,13 +65,14 @@ promised-stage r f xs i v d bs es ys e promise =
     }
 
 -- at every stage from 1 up: where a program answers Done, the named bit flips in its sheet, and as every program that keeps the promise of read reads it
-pub not-pretending : (p : ChangeProgram) (q : ReadProgram) → KeepsChange p → KeepsRead q → (r : Settings) → StagedFacts r → (xs : List ℕ) (i v d : ℕ) (bs : List ℕ) (es : List Entry) →
-    decode (r .s) (r .m) (r .top) (r .w) xs ≡ staged d bs es → p r xs i .answer ≡ Done v →
-    AtStage r xs i d bs es (p r xs i .sheet) × ((out : List ℕ) → r .k ≤ length out → getD (q r (p r xs i .sheet) out .places) i 0 ≡ 1 - getD (q r xs out .places) i 0)
-not-pretending p q kp kq r f xs i v d bs es e a =
-    let h : Made r xs i v (p r xs i .sheet) = promised-made r xs i v (p r xs i .sheet) (answered p kp r xs i a) in (
-      promised-stage r f xs i v d bs es (p r xs i .sheet) e (answered p kp r xs i a),
-      λ out l. reads-bit q kq r (p r xs i .sheet) out (h .changed .stays) l i (h .bit) ∙ h .changed .flips ∙ ap (λ (x : ℕ). 1 - x) (sym (reads-bit q kq r xs out (h .accepted) l i (h .bit))),
+pub not-pretending : (p : ChangeProgram) (q : ReadProgram) → KeepsChange p → KeepsRead q → (r : Settings) → StagedFacts r → (xs : List ℕ) (i d : ℕ) (bs : List ℕ) (es : List Entry) →
+    Words r → Bytes xs → Word i → decode (r .s) (r .m) (r .top) (r .w) xs ≡ staged d bs es → p r xs i .number ≡ 0 →
+    AtLaterStage r xs i d bs es (p r xs i .leaves) × ((out : List ℕ) → Bytes out → r .k ≤ length out → getD (q r (p r xs i .leaves) out .leaves) i 0 ≡ 1 - getD (q r xs out .leaves) i 0)
+not-pretending p q kp kq r f xs i d bs es wr b w e a =
+    let k : ChangePromise r xs i 0 (p r xs i .value) (p r xs i .leaves) = by-number a (kp r xs i wr b w) in
+    let h : Made r xs i (p r xs i .value) (p r xs i .leaves) = promised-made r xs i (p r xs i .value) (p r xs i .leaves) k in (
+      promised-stage r f xs i (p r xs i .value) d bs es (p r xs i .leaves) e k,
+      λ out t l. reads-bit q kq r (p r xs i .leaves) out (h .changed .stays) t l i (h .bit) ∙ h .changed .flips ∙ ap (λ (x : ℕ). 1 - x) (sym (reads-bit q kq r xs out (h .accepted) t l i (h .bit))),
     )
 
 -- ---- where stage 0 ends
@@ -153,20 +157,13 @@ stage-zero-ends r p g =
 pub data Later (d : ℕ) : Sheet → Type 0 where
   later-at : (e : ℕ) (bs : List ℕ) (es : List Entry) → e < d → Later d (staged e bs es)
 
--- one stage fewer is fewer
-later-more : {d : ℕ} {x : Sheet} → Later d x → Later (suc d) x
-later-more (later-at e bs es l) = later-at e bs es (omega arith)
-
 -- the search for a later stage gives one
 later-found : (s m L d : ℕ) (bs vs : List ℕ) (y : Sheet) → S.later s m L d bs vs ≡ done y → Later d y
-later-found s m L zero bs vs y e = absurd (let z : _≡_ {A = ℕ} 0 1 = cc in omega arith)
-later-found s m L (suc d) bs vs y e = pick-elim (λ (q : Result Sheet). q ≡ done y → Later (suc d) y) (decLe (2 ^ s) (S.liveCount s m L d bs)) _ _
-    (λ _ q. let z : S.moveTo s m L d bs vs ≡ y = cc in subst (Later (suc d)) z (later-at d _ _ (le-refl (suc d))))
-    (λ _ q. later-more (later-found s m L d bs vs y q)) e
+later-found s m L d bs vs y e = let n : NextStage s m L d bs vs y = later-first s m L d bs vs y e in subst (Later d) (sym (n .is)) (later-at (n .left) _ _ (n .after))
 
--- where the plain map has no place at stage 0, an outcome Done that meets the promise is a sheet at a later stage
+-- where the plain map has no place at stage 0, number 0 that meets the promise leaves a sheet at a later stage
 pub promised-later : (r : Settings) → StagedFacts r → (xs : List ℕ) (i v : ℕ) (bs ys : List ℕ) →
-    decode (r .s) (r .m) (r .top) (r .w) xs ≡ stage0 bs → R.change (2 ^ r .s) (r .top) (r .m) i bs ≡ noPlace → ChangePromise r xs i (Done v) ys →
+    decode (r .s) (r .m) (r .top) (r .w) xs ≡ stage0 bs → R.change (2 ^ r .s) (r .top) (r .m) i bs ≡ noPlace → ChangePromise r xs i 0 v ys →
     Later (r .s - 1) (decode (r .s) (r .m) (r .top) (r .w) ys)
 unfolding S.changeCells S.change
 promised-later r f xs i v bs ys e n promise = go (S.change (r .s) (r .m) (r .top) i (means r f xs)) refl (sym (staged-change r f xs i) ∙ made .maps)
@@ -193,10 +190,8 @@ promised-later r f xs i v bs ys e n promise = go (S.change (r .s) (r .m) (r .top
 
 -- what a program does on the sheet where stage 0 ends
 pub record GoesOn (p : ChangeProgram) (r : Settings) (z : StageZeroEnd r) : Type 0 where
-  pub raised : ℕ
-  pub answer : p r (z .sheet) 0 .answer ≡ Done raised
-  pub not-erase : p r (z .sheet) 0 .answer ≢ Erase
-  pub later : Later (r .s - 1) (decode (r .s) (r .m) (r .top) (r .w) (p r (z .sheet) 0 .sheet))
+  pub done : p r (z .sheet) 0 .number ≡ 0
+  pub later : Later (r .s - 1) (decode (r .s) (r .m) (r .top) (r .w) (p r (z .sheet) 0 .leaves))
 
 -- where Erase is not answered there, every program goes on to a later stage
 goes-on : (p : ChangeProgram) → KeepsChange p → (r : Settings) → StagedFacts r → (z : StageZeroEnd r) → changeCall r (z .sheet) 0 .answer ≢ Erase → GoesOn p r z
@@ -205,14 +200,15 @@ goes-on p kp r f z never = go (changeSheet r (z .sheet) 0) refl
     bit : 0 < r .k
     bit = omega (arith, staged-bits r f .0)
 
+    kept : ChangeKept p r (z .sheet) 0
+    kept = kept-on p kp r (z .sheet) 0 (run-accepted r (z .run)) (omega arith)
+
     go : (q : Result (List ℕ)) → changeSheet r (z .sheet) 0 ≡ q → GoesOn p r z
     go (done ys) e =
-        let a : p r (z .sheet) 0 .answer ≡ Done (sum ys - sum (z .sheet)) = ap (λ (o : Outcome). o .answer) (kp r (z .sheet) 0 ∙ done-answered r (z .sheet) ys 0 (run-accepted r (z .run)) bit e) in
+        let a : p r (z .sheet) 0 .number ≡ 0 = kept .number ∙ ap (λ (o : Outcome). numberOf (o .answer)) (done-answered r (z .sheet) ys 0 (run-accepted r (z .run)) bit e) in
         record {
-          raised = sum ys - sum (z .sheet);
-          answer = a;
-          not-erase = λ x. never (sym (ap (λ (o : Outcome). o .answer) (kp r (z .sheet) 0)) ∙ x);
-          later = promised-later r f (z .sheet) 0 (sum ys - sum (z .sheet)) (z .blocks) (p r (z .sheet) 0 .sheet) (z .stage) (z .stuck) (answered p kp r (z .sheet) 0 a);
+          done = a;
+          later = promised-later r f (z .sheet) 0 (p r (z .sheet) 0 .value) (z .blocks) (p r (z .sheet) 0 .leaves) (z .stage) (z .stuck) (by-number a kept);
         }
     go noPlace e = absurd (never (erase-answered r (z .sheet) 0 (run-accepted r (z .run)) bit e))
 
@@ -285,7 +281,7 @@ above-all (suc (suc (suc (suc (suc zero))))) t L h g l = inr (omega arith)
 above-all (suc (suc (suc (suc (suc (suc zero)))))) t L h g l = inr (omega arith)
 above-all (suc (suc (suc (suc (suc (suc (suc s))))))) t L h g l = absurd (omega arith)
 
--- so for every accepted staged settings: k = 4 and L = 1, or the plain count is below the guarantee
+-- whatever the accepted staged settings: k = 4 and L = 1, or the plain count is below the guarantee
 pub counts-apart : (r : Settings) → StagedFacts r → ((r .k ≡ 4) × (r .top ≡ 1)) ⊎ (plainCount r < guarantee r)
 counts-apart r p = ⊎-elim (λ a. inl (sym (p .bits) ∙ ap (λ (s : ℕ). 2 ^ s) (a .0), a .1)) (λ b. inr (above b)) (above-all (r .s) (r .m - r .k) (r .top) (p .stages-least) (p .stages-most) (p .top-least))
   where

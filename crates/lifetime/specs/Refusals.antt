@@ -2,7 +2,7 @@
 use mathlib.Core.Path.{_≡_, refl, sym, ap, _∙_, subst}
 use mathlib.Core.Logic.{_≢_, _↔_, _⊎_, inl, inr, ⊎-elim}
 use mathlib.Core.List.{List, _++_}
-use Prim.Native.Nat.{ℕ, zero, suc, _+_, _-_, _≤_, _<_}
+use Prim.Native.Nat.{ℕ, zero, suc, _+_, _-_, _*_, _/_, _%_, _^_, _≤_, _<_}
 use native.Mathlib.Decide.{ℕ-discrete, decLe, decLt}
 use native.Mathlib.Nat.{not-suc-le-zero}
 use native.Mathlib.Omega.{arith}
@@ -13,11 +13,10 @@ use Rattle.rules.specs.SearchLaws.{pick-yes, pick-no, pick-elim, First, hit, mi
 use Rattle.rules.specs.Cells.{sum, Low, firstAbove}
 use Rattle.rules.specs.Batches.{indexCells, decode}
 use Rattle.rules.specs.Accept.{stagesOf, indexWidth, refused, accept, Genuine, genuine?, guarantee}
-use Rattle.rules.specs.StagesLaws.{stages-bits}
+use Rattle.rules.specs.StagesLaws.{stages-is, stages-bits, stages-only, width-enough, width-least, width-only}
 use Rattle.rules.specs.AcceptLaws.{PlainRules, StagedRules, Ruled, kept, broken, plain-ruled, staged-ruled}
-use Rattle.rules.specs.Calls.{Check, Pass, Refuse, Sound, sound?, readAt, readBit, bitsOf, changeSheet, ask, andThen, levelCheck, checkBit, checkLength, checkLevels, checkOutput, checkSheet, eraseChecks, readChecks, changeChecks, settingsCall, Outcome, erasing, eraseCall, changed, changing, changeCall, Reading, reading, readCall}
+use Rattle.rules.specs.Calls.{Check, Pass, Refuse, Sound, sound?, readAt, readBit, bitsOf, changeSheet, ask, andThen, levelCheck, checkBit, checkLength, checkLevels, checkOutput, checkSheet, eraseChecks, readChecks, changeChecks, settingsCall, Outcome, erasing, eraseCall, changed, changing, changeCall, Reading, reading, readCall, outcome, readOut}
 use Rattle.rules.specs.Answer.{numberOf, valueOf}
-use Rattle.rules.specs.Promises.{outcome, readOut}
 use Rattle.rules.specs.declared.Settings.{Settings}
 use Rattle.rules.specs.declared.Answer.{Answer}
 use Rattle.rules.specs.declared.Answer.the-variants.{Done, BadShape, BadLength, ShortOutput, BadBit, BadLevel, BadSheet, Erase}
@@ -30,10 +29,39 @@ use Rattle.rules.specs.Staged.{readCells}
 
 -- ---- which answer, exactly when
 
+-- the table of 01 for kind 0
+pub record PlainTable (k L n : ℕ) : Type 0 where
+  pub bits-least : 2 ≤ k
+  pub bits-most : k ≤ 64
+  pub top-least : 1 ≤ L
+  pub top-most : L ≤ 255
+  pub even : k * L % 2 ≡ 0
+  pub cells-most : n ≤ 16384
+  -- m = n / k is at least k
+  pub room : k ≤ n / k
+
+-- the table of 01 for kind 1
+pub record StagedTable (k L n : ℕ) : Type 0 where
+  pub s : ℕ
+  pub w : ℕ
+  -- k is 2 ^ s, with s from 2 to 6: 4, 8, 16, 32 or 64
+  pub bits : 2 ^ s ≡ k
+  pub stages-least : 2 ≤ s
+  pub stages-most : s ≤ 6
+  pub top-least : 1 ≤ L
+  pub top-most : L ≤ 255
+  pub cells-most : n ≤ 16384
+  -- the width w is the least with (L + 1) ^ w at least k + 2
+  pub enough : k + 2 ≤ suc L ^ w
+  pub least : (v : ℕ) → k + 2 ≤ suc L ^ v → w ≤ v
+  -- I = 2(k - 1)(s - 1)w is at most n, and m = (n - I) / k at least k
+  pub index-room : 2 * (k - 1) * (s - 1) * w ≤ n
+  pub room : k ≤ (n - 2 * (k - 1) * (s - 1) * w) / k
+
 -- settings within the table of 01
 abbrev pub Allowed : ℕ → ℕ → ℕ → ℕ → Type 0
-Allowed zero k L n = PlainRules k L n
-Allowed (suc zero) k L n = StagedRules k L n (stagesOf k) (indexCells (stagesOf k) (indexWidth L k))
+Allowed zero k L n = PlainTable k L n
+Allowed (suc zero) k L n = StagedTable k L n
 Allowed (suc (suc kind)) k L n = ⊥
 
 -- settings: BadShape outside the table, else Done with the guarantee
@@ -68,15 +96,63 @@ pub data ChangeAnswer (r : Settings) (xs : List ℕ) (i : ℕ) : Answer → Type
 
 -- ---- settings
 
--- rules that are kept give a record with bits, and broken ones the record of zeros
-ruled-or : {A : Type 0} {x r : Settings} → Ruled A x r → (A → 0 < x .k) → (A × (0 < r .k)) ⊎ (¬ A × (r ≡ refused))
-ruled-or (kept a) p = inl (a, p a)
-ruled-or (broken h) p = inr (h, refl)
+-- the rules of kind 0 are its table
+plain-table : (k L n : ℕ) → PlainRules k L n ↔ PlainTable k L n
+plain-table k L n = (
+  λ a. record { bits-least = a .bits-least; bits-most = a .bits-most; top-least = a .top-least; top-most = a .top-most; even = a .even; cells-most = a .cells-most; room = a .room },
+  λ t. record { bits-least = t .bits-least; bits-most = t .bits-most; top-least = t .top-least; top-most = t .top-most; cells-most = t .cells-most; even = t .even; room = t .room },
+)
+
+-- the cells of all batches are I
+index-is : (k s w : ℕ) → 2 ^ s ≡ k → indexCells s w ≡ 2 * (k - 1) * (s - 1) * w
+index-is k s w e = rw (sym e) (omega arith)
+
+-- the rules of kind 1 give its table
+rules-table : (k L n : ℕ) → StagedRules k L n (stagesOf k) (indexCells (stagesOf k) (indexWidth L k)) → StagedTable k L n
+rules-table k L n a =
+    let f : (stagesOf k ≤ 6) × (2 ^ stagesOf k ≡ k) = stages-is k (omega (arith, a .stages-least)) in
+    let e = index-is k (stagesOf k) (indexWidth L k) (f .1) in
+    record {
+      s = stagesOf k;
+      w = indexWidth L k;
+      bits = f .1;
+      stages-least = a .stages-least;
+      stages-most = f .0;
+      top-least = a .top-least;
+      top-most = a .top-most;
+      cells-most = a .cells-most;
+      enough = width-enough L k (a .top-least);
+      least = width-least L k (a .top-least);
+      index-room = subst (λ (I : ℕ). I ≤ n) e (a .index-room);
+      room = subst (λ (I : ℕ). k ≤ (n - I) / k) e (a .room);
+    }
+
+-- and the table gives them
+table-rules : (k L n : ℕ) → StagedTable k L n → StagedRules k L n (stagesOf k) (indexCells (stagesOf k) (indexWidth L k))
+table-rules k L n t =
+    let e = sym (index-is k (t .s) (t .w) (t .bits)) in
+    rw (stages-only k (t .s) (t .stages-most) (t .bits), width-only L k (t .w) (t .top-least) (t .enough) (t .least)) (record {
+      stages-least = t .stages-least;
+      top-least = t .top-least;
+      top-most = t .top-most;
+      cells-most = t .cells-most;
+      index-room = subst (λ (I : ℕ). I ≤ n) e (t .index-room);
+      room = subst (λ (I : ℕ). k ≤ (n - I) / k) e (t .room);
+    })
+
+-- so they are its table
+staged-table : (k L n : ℕ) → StagedRules k L n (stagesOf k) (indexCells (stagesOf k) (indexWidth L k)) ↔ StagedTable k L n
+staged-table k L n = (rules-table k L n, table-rules k L n)
+
+-- where rules are a table, those that keep it get a record with bits, and the others the record of zeros
+ruled-or : {A B : Type 0} {x r : Settings} → Ruled A x r → A ↔ B → (A → 0 < x .k) → (B × (0 < r .k)) ⊎ (¬ B × (r ≡ refused))
+ruled-or (kept a) q p = inl (q .0 a, p a)
+ruled-or (broken h) q p = inr (λ b. h (q .1 b), refl)
 
 -- acceptance goes by the table
 allowed-or : (kind k L n : ℕ) → (Allowed kind k L n × (0 < accept kind k L n .k)) ⊎ (¬ (Allowed kind k L n) × (accept kind k L n ≡ refused))
-allowed-or zero k L n = ruled-or (plain-ruled k L n) (λ a. omega (arith, a .bits-least))
-allowed-or (suc zero) k L n = ruled-or (staged-ruled k L n _ _ _ refl refl refl) (λ a. omega (arith, stages-bits k (stagesOf k) refl (a .stages-least) .1))
+allowed-or zero k L n = ruled-or (plain-ruled k L n) (plain-table k L n) (λ a. omega (arith, a .bits-least))
+allowed-or (suc zero) k L n = ruled-or (staged-ruled k L n _ _ _ refl refl refl) (staged-table k L n) (λ a. omega (arith, stages-bits k (stagesOf k) refl (a .stages-least) .1))
 allowed-or (suc (suc kind)) k L n = inr (λ h. h, refl)
 
 -- the answer of settings is the one listed

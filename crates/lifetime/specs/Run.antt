@@ -1,5 +1,5 @@
 -- Demand 3: how many changes are accepted before the first Erase, for every run of calls from an erased sheet. Assumes nothing.
-use mathlib.Core.Path.{_≡_, refl, sym, ap, _∙_, subst}
+use mathlib.Core.Path.{_≡_, sym, ap, _∙_, subst}
 use mathlib.Core.Logic.{⊎-elim}
 use mathlib.Core.List.{List}
 use Prim.Native.Nat.{ℕ, suc, _+_, _-_, _*_, _^_, _≤_, _<_}
@@ -8,12 +8,14 @@ use lib.ListN.{replicate, length-replicate}
 use Rattle.rules.specs.Search.{done}
 use Rattle.rules.specs.Cells.{sum}
 use Rattle.rules.specs.Accept.{Genuine, guarantee}
+use Rattle.rules.specs.Answer.{sortOf, ifMade}
+use Rattle.rules.specs.AnswerLaws.{not-made, refusal-not}
 use Rattle.rules.specs.AcceptLaws.{PlainFacts, StagedFacts, genuine-facts, genuine-plain}
 use Rattle.rules.specs.GuaranteeLaws.{guarantee-plain, guarantee-staged}
 use Rattle.rules.specs.Calls.{Check, Pass, changeSheet, Outcome, eraseChecks, erasing, eraseCall, changeCall}
 use Rattle.rules.specs.declared.Settings.{Settings}
 use Rattle.rules.specs.declared.Answer.{Answer}
-use Rattle.rules.specs.declared.Answer.the-variants.{Done, BadShape, BadLength, ShortOutput, BadBit, BadLevel, BadSheet, Erase, BadRecord}
+use Rattle.rules.specs.declared.Answer.the-variants.{Done, Erase}
 use Rattle.laws.specs.PlainSheet as P
 use Rattle.lifetime.specs.Storage as T
 use Rattle.lifetime.specs.Tight as E
@@ -23,15 +25,7 @@ use Rattle.lifetime.specs.Change.{is-plain, many, stored, means, back, C
 
 -- one more for an accepted change, none for any other answer
 abbrev pub counted : Answer → ℕ → ℕ
-counted (Done v) c = suc c
-counted BadShape c = c
-counted BadLength c = c
-counted ShortOutput c = c
-counted BadBit c = c
-counted (BadLevel x) c = c
-counted BadSheet c = c
-counted Erase c = c
-counted BadRecord c = c
+counted a c = ifMade (sortOf a) (suc c) c
 
 -- c changes were accepted since the sheet was erased, in any run of change calls, and it is now xs
 pub data Run (r : Settings) : ℕ → List ℕ → Type 0 where
@@ -40,15 +34,7 @@ pub data Run (r : Settings) : ℕ → List ℕ → Type 0 where
 
 -- a refusal adds nothing
 refusal-none : (a : Answer) (c : ℕ) → Refusal a → counted a c ≡ c
-refusal-none (Done v) c q = absurd q
-refusal-none BadShape c q = refl
-refusal-none BadLength c q = refl
-refusal-none ShortOutput c q = refl
-refusal-none BadBit c q = refl
-refusal-none (BadLevel x) c q = refl
-refusal-none BadSheet c q = refl
-refusal-none Erase c q = absurd q
-refusal-none BadRecord c q = refl
+refusal-none a c q = not-made (sortOf a) (suc c) c (refusal-not (sortOf a) q)
 
 -- ---- a run of calls is a run of the maps
 

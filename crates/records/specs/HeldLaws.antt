@@ -1,22 +1,23 @@
 -- What the program holds after every record: no sheet, or one that every call accepts; and what it then prints of it. Assumes nothing.
 use mathlib.Core.Path.{_≡_, refl, sym, ap, subst}
 use mathlib.Core.List.{List, [], _++_}
-use Prim.Native.Nat.{ℕ, zero, suc}
-use lib.ListN.{take, drop, replicate, take-append-drop}
+use Prim.Native.Nat.{ℕ, zero, suc, _≤_}
+use lib.ListN.{length, take, drop, replicate, take-append-drop}
 use lib.Seq.{take-at}
-use Rattle.rules.specs.Cells.{sum}
 use Rattle.rules.specs.Accept.{refused, genuine?}
 use Rattle.rules.specs.AcceptLaws.{refused-forged}
+use Rattle.rules.specs.Answer.{sortOf}
+use Rattle.rules.specs.AnswerLaws.{not-made, refusal-not}
+use Rattle.rules.specs.GuaranteeLaws.{reported-none}
 use Rattle.rules.specs.Calls.{Check, Pass, Refuse, bitsOf, Outcome, changeCall}
-use Rattle.rules.specs.Records.{operation, Step, heldAfter, eraseStep, changeStep, passed, recordStep}
+use Rattle.rules.specs.Records.{operation, Step, heldAfter, eraseStep, changeStep, passed, recordStep, shown, bitsHeld, sumHeld}
 use Rattle.rules.specs.declared.Settings.{Settings}
 use Rattle.rules.specs.declared.Answer.{Answer}
-use Rattle.rules.specs.declared.Answer.the-variants.{Done, BadShape, BadLength, ShortOutput, BadBit, BadLevel, BadSheet, Erase, BadRecord}
+use Rattle.rules.specs.declared.Answer.the-variants.{BadShape}
 use Rattle.laws.specs.Calls.{Accepted, Refusal, Making, refuses, erases, makes, change-is, Erasing, refusing, clears, erase-is, ask-fails, then-ends, read-passes}
 use Rattle.lifetime.specs.Change.{change-made, erased-accepted}
-use Rattle.records.specs.Meaning.{checkRecord, asked, work, shown, bitsHeld}
+use Rattle.records.specs.Meaning.{checkRecord, asked, work}
 use Rattle.records.specs.Laws.{record-first}
-use Rattle.records.specs.ReadLaws.{zeros-enough}
 
 -- what is held: no sheet, or a sheet that every call accepts, its cells first
 pub data Holding : Settings → List ℕ → Type 0 where
@@ -24,22 +25,14 @@ pub data Holding : Settings → List ℕ → Type 0 where
   held : {r : Settings} {xs : List ℕ} → Accepted r (take (r .n) xs) → Holding r xs
 
 -- what a step leaves held
-abbrev After : Step → Type 0
+abbrev pub After : Step → Type 0
 After s = Holding (s .settings) (s .cells)
 
 -- ---- each operation
 
 -- a refused erase keeps the settings held
-erase-keeps : (new r : Settings) (a : Answer) → Refusal a → heldAfter new r a ≡ r
-erase-keeps new r (Done v) q = absurd q
-erase-keeps new r BadShape q = refl
-erase-keeps new r BadLength q = refl
-erase-keeps new r ShortOutput q = refl
-erase-keeps new r BadBit q = refl
-erase-keeps new r (BadLevel c) q = refl
-erase-keeps new r BadSheet q = refl
-erase-keeps new r Erase q = refl
-erase-keeps new r BadRecord q = refl
+pub erase-keeps : (new r : Settings) (a : Answer) → Refusal a → heldAfter new r a ≡ r
+erase-keeps new r a q = not-made (sortOf a) new r (refusal-not (sortOf a) q)
 
 -- a sheet put in front is the sheet held
 in-front : (r : Settings) (ys zs : List ℕ) → Accepted r ys → Holding r (ys ++ zs)
@@ -86,16 +79,26 @@ pub record-holds : (rec : List ℕ) (r : Settings) (xs : List ℕ) → Holding r
 record-holds rec r xs h =
     subst After (sym (record-first rec r xs refl)) (passed-holds (checkRecord rec r) r xs (work (operation rec) rec r xs) h (work-holds (operation rec) rec r xs h))
 
+-- what is held after any records, from no sheet on, whatever the cells hold then
+pub data Reached : Settings → List ℕ → Type 0 where
+  at-first : {xs : List ℕ} → Reached refused xs
+  after-one : {r : Settings} {xs : List ℕ} (rec : List ℕ) → Reached r xs → Reached (recordStep rec r xs .settings) (recordStep rec r xs .cells)
+
+-- it is no sheet or an accepted one
+pub reached-holds : {r : Settings} {xs : List ℕ} → Reached r xs → Holding r xs
+reached-holds at-first = nothing
+reached-holds (after-one {r} {xs} rec h) = record-holds rec r xs (reached-holds h)
+
 -- ---- what is printed of it
 
--- the bits of an accepted sheet
-pub held-shows : (r : Settings) (xs : List ℕ) → Accepted r (take (r .n) xs) → bitsHeld r xs ≡ bitsOf r (take (r .n) xs)
-held-shows r xs a = ap (λ (c : Check). shown c (bitsOf r (take (r .n) xs))) (read-passes r (take (r .n) xs) (replicate (r .k) 0) a (zeros-enough r))
+-- the bits of an accepted sheet, where there are places for them
+pub held-shows : (r : Settings) (xs out : List ℕ) → Accepted r (take (r .n) xs) → r .k ≤ length out → bitsHeld r xs out ≡ bitsOf r (take (r .n) xs)
+held-shows r xs out a l = ap (λ (c : Check). shown c (bitsOf r (take (r .n) xs))) (read-passes r (take (r .n) xs) out a l)
 
 -- no bit while there is no sheet
-pub nothing-shows : (xs : List ℕ) → bitsHeld refused xs ≡ []
-nothing-shows xs = ap (λ (c : Check). shown c (bitsOf refused (take 0 xs))) (then-ends _ (ask-fails (genuine? refused) BadShape refused-forged))
+pub nothing-shows : (xs out : List ℕ) → bitsHeld refused xs out ≡ []
+nothing-shows xs out = ap (λ (c : Check). shown c (bitsOf refused (take 0 xs))) (then-ends _ (ask-fails (genuine? refused) BadShape refused-forged))
 
 -- and the sum 0
-pub nothing-sums : (xs : List ℕ) → sum (take (refused .n) xs) ≡ 0
-nothing-sums xs = refl
+pub nothing-sums : (xs : List ℕ) → sumHeld refused xs ≡ 0
+nothing-sums xs = reported-none refused _ refused-forged

@@ -8,8 +8,10 @@ use native.Mathlib.Omega.{arith}
 use lib.ListN.{length, getD, take, drop, drop-of-length-le}
 use lib.Seq.{take-all, take-length, drop-length, length-take-le}
 use Rattle.rules.specs.SearchLaws.{pick-elim}
+use Rattle.rules.specs.Answer.{numberOf, valueOf}
 use Rattle.rules.specs.Calls.{Check, Pass, Refuse, ask, andThen, Outcome, eraseCall, changeCall}
-use Rattle.rules.specs.Promises.{ErasePromise, ChangePromise}
+use Rattle.rules.specs.Promises.{Gives, ErasePromise, ChangePromise}
+use Rattle.rules.specs.PromiseLaws.{gives, outcome-is}
 use Rattle.rules.specs.Records.{operation, kindAsked, bitsAsked, topAsked, cellsAsked, bitNamed, checkForm, checkUnused, checkHeld, Step, passed, byOperation, recordStep, heldAfter, eraseStep, changeStep, readStep}
 use Rattle.rules.specs.declared.Settings.{Settings}
 use Rattle.rules.specs.declared.Answer.{Answer}
@@ -132,12 +134,13 @@ record-form rec r e = tested-passed (form-tested rec) (then-first (checkForm rec
 
 -- n where there are that many cells
 pub front-part : (n : ℕ) (xs : List ℕ) → n ≤ length xs → Front n xs n
-front-part n xs h = record { inside = h; counted = sym (length-take-le n xs h); part = refl; rest = refl }
+front-part n xs h = record { inside = h; most = le-refl n; counted = sym (length-take-le n xs h); part = refl; rest = refl }
 
 -- all of them where there are fewer
 pub front-all : (n : ℕ) (xs : List ℕ) → length xs ≤ n → Front n xs (length xs)
 front-all n xs h = record {
   inside = le-refl (length xs);
+  most = h;
   counted = sym (ap length (take-length xs));
   part = take-length xs ∙ sym (take-all n xs h);
   rest = drop-length xs ∙ sym (drop-of-length-le xs h);
@@ -146,16 +149,23 @@ front-all n xs h = record {
 -- ---- the work
 
 -- an erase of the front is the work of operation 1
-pub erase-step : (new r : Settings) (xs : List ℕ) (n : ℕ) (a : Answer) (ys : List ℕ) {s : Settings} → Front (new .n) xs n → ErasePromise new (take n xs) a ys → s ≡ heldAfter new r a →
+pub erase-step : (new r : Settings) (xs : List ℕ) (n : ℕ) (a : Answer) (ys : List ℕ) {s : Settings} → Front (new .n) xs n → ErasePromise new (take n xs) (numberOf a) (valueOf a) ys → s ≡ heldAfter new r a →
     stepOf (record { answer = a; settings = s }) (ys ++ drop n xs) ≡ eraseStep new r xs
 erase-step new r xs n a ys f e h =
     ap (λ (s : Settings). stepOf (record { answer = a; settings = s }) (ys ++ drop n xs)) h
     ∙ ap (λ (zs : List ℕ). stepOf (record { answer = a; settings = heldAfter new r a }) (ys ++ zs)) (f .rest)
-    ∙ ap (λ (o : Outcome). stepOf (record { answer = o .answer; settings = heldAfter new r (o .answer) }) (o .sheet ++ drop (new .n) xs)) (e ∙ ap (eraseCall new) (f .part))
+    ∙ ap (λ (o : Outcome). stepOf (record { answer = o .answer; settings = heldAfter new r (o .answer) }) (o .sheet ++ drop (new .n) xs)) (outcome-is {a = a} e ∙ ap (eraseCall new) (f .part))
 
 -- a change of the front is the work of operation 2
-pub change-step : (r : Settings) (xs : List ℕ) (i n : ℕ) (a : Answer) (ys : List ℕ) → Front (r .n) xs n → ChangePromise r (take n xs) i a ys →
+pub change-step : (r : Settings) (xs : List ℕ) (i n : ℕ) (a : Answer) (ys : List ℕ) → Front (r .n) xs n → ChangePromise r (take n xs) i (numberOf a) (valueOf a) ys →
     stepOf (record { answer = a; settings = r }) (ys ++ drop n xs) ≡ changeStep r xs i
 change-step r xs i n a ys f e =
     ap (λ (zs : List ℕ). stepOf (record { answer = a; settings = r }) (ys ++ zs)) (f .rest)
-    ∙ ap (λ (o : Outcome). stepOf (record { answer = o .answer; settings = r }) (o .sheet ++ drop (r .n) xs)) (e ∙ ap (λ (zs : List ℕ). changeCall r zs i) (f .part))
+    ∙ ap (λ (o : Outcome). stepOf (record { answer = o .answer; settings = r }) (o .sheet ++ drop (r .n) xs)) (outcome-is {a = a} e ∙ ap (λ (zs : List ℕ). changeCall r zs i) (f .part))
+
+-- ---- the promise
+
+-- a record's answer, the settings then held and the cells, as number and value
+pub step-told : {a : Answer} {r : Settings} {ys : List ℕ} {s : Step} → stepOf (record { answer = a; settings = r }) ys ≡ s →
+    Gives {A = Settings × List ℕ} (s .answer) (s .settings, s .cells) (numberOf a) (valueOf a) (r, ys)
+step-told e = gives (ap (λ (s : Step). s .answer) e) (ap {B = Settings × List ℕ} (λ (s : Step). (s .settings, s .cells)) e)

@@ -3,3 +3,4 @@ pub mod Meaning
 pub mod Laws
 pub mod ReadLaws
 pub mod HeldLaws
+pub mod Refusals

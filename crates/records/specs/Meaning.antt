@@ -1,10 +1,10 @@
 -- What the parts of a record's meaning ask for and hand back. Assumes nothing.
 use mathlib.Core.Path.{_≡_}
-use mathlib.Core.List.{List, []}
+use mathlib.Core.List.{List}
 use Prim.Native.Nat.{ℕ, zero, suc, _≤_, _<_}
-use lib.ListN.{length, getD, take, drop, replicate}
+use lib.ListN.{length, getD, take, drop}
 use Rattle.rules.specs.Accept.{accept}
-use Rattle.rules.specs.Calls.{Check, Pass, Refuse, bitsOf, andThen, readChecks}
+use Rattle.rules.specs.Calls.{Check, Refuse, andThen}
 use Rattle.rules.specs.Records.{operation, kindAsked, bitsAsked, topAsked, cellsAsked, bitNamed, checkForm, checkUnused, checkHeld, Step, keep, eraseStep, changeStep, readStep}
 use Rattle.rules.specs.declared.Settings.{Settings}
 use Rattle.rules.specs.declared.Setup.{Setup}
@@ -60,24 +60,7 @@ work (suc (suc (suc op))) rec r xs = readStep r xs
 -- a is n cut to the length of xs: the first a cells are the first n, and what stands after them is the same
 pub record Front (n : ℕ) (xs : List ℕ) (a : ℕ) : Type 0 where
   pub inside : a ≤ length xs
+  pub most : a ≤ n
   pub counted : a ≡ length (take a xs)
   pub part : take a xs ≡ take n xs
   pub rest : drop a xs ≡ drop n xs
-
--- ---- the bits of the sheet held
-
--- bits are shown where a reading passes its checks
-abbrev pub shown : Check → List ℕ → List ℕ
-shown Pass bits = bits
-shown (Refuse a) bits = []
-
--- the bits of the sheet held, bit 0 first; none while there is no sheet
-abbrev pub bitsHeld : Settings → List ℕ → List ℕ
-bitsHeld r xs = shown (readChecks r (take (r .n) xs) (replicate (r .k) 0)) (bitsOf r (take (r .n) xs))
-
--- the first a places of ys are those bits, and the places after them are those of out
-pub record BitsShown (r : Settings) (xs out ys : List ℕ) (a : ℕ) : Type 0 where
-  pub inside : a ≤ length ys
-  pub counted : a ≡ length (take a ys)
-  pub bits : take a ys ≡ bitsHeld r xs
-  pub rest : drop a ys ≡ drop a out

@@ -3,13 +3,13 @@ use rules::Answer;
 use rules::Settings;
 use rules::Setup;
 ghost use mathlib.Core.Path.{_≡_};
-ghost use Prim.Native.Nat.{_+_, _*_, _≤_, _<_};
-ghost use lib.ListN.{length, getD, take};
-ghost use Rattle.rules.specs.Accept.{mostBits};
+ghost use Prim.Native.Nat.{_≤_, _<_};
+ghost use lib.ListN.{length, getD};
+ghost use Rattle.rules.specs.Answer.{numberOf, valueOf};
 ghost use Rattle.rules.specs.Calls.{asCheck};
-ghost use Rattle.rules.specs.Cells.{sum};
-ghost use Rattle.rules.specs.Records.{operation, cellsAsked, checkForm, checkUnused, checkHeld, heldAfter, eraseStep, changeStep, readStep, recordStep};
-ghost use Rattle.records.specs.Meaning.{stepOf, asked, checkUse, checkRecord, Front, BitsShown};
+ghost use Rattle.rules.specs.Promises.{RecordPromise, SumPromise, BitsPromise};
+ghost use Rattle.rules.specs.Records.{operation, cellsAsked, checkForm, checkUnused, checkHeld, heldAfter, eraseStep, changeStep, readStep};
+ghost use Rattle.records.specs.Meaning.{stepOf, asked, checkUse, checkRecord, Front};
 
 // The most bits.
 const MOST_BITS: usize = 64;
@@ -140,17 +140,10 @@ fn front(n: usize, cells: &[u8]) -> usize
 fn held_after(new: Settings, held: Settings, answer: Answer) -> Settings
     ensures { λ r. ⌜ r ≡ heldAfter new held answer ⌝ }
 {
-    match answer {
-        Answer::Done(_) => new,
-        Answer::BadShape => held,
-        Answer::BadLength => held,
-        Answer::ShortOutput => held,
-        Answer::BadBit => held,
-        Answer::BadLevel(_) => held,
-        Answer::BadSheet => held,
-        Answer::Erase => held,
-        Answer::BadRecord => held,
-    }
+    let Answer::Done(_) = answer else {
+        return held;
+    };
+    new
 }
 
 // Operation 1: the sheet of the new settings is erased, and held if that is done.
@@ -190,7 +183,7 @@ fn obey_read(held: Settings, cells: &[u8]) -> Setup
 
 // One record: every test for BadRecord first, then the work of its operation.
 pub fn obey(bytes: &[u8], held: Settings, cells: &mut [u8]) -> Setup
-    ensures { λ r. ⌜ stepOf r (now (cells .exit)) ≡ recordStep (now (bytes .entry)) held (now (cells .entry)) ⌝ }
+    ensures { λ r. ⌜ RecordPromise (now (bytes .entry)) held (now (cells .entry)) (numberOf (r .answer)) (valueOf (r .answer)) (r .settings) (now (cells .exit)) ⌝ }
 {
     let answer = check_record(bytes, held);
     let Answer::Done(_) = answer else {
@@ -209,19 +202,20 @@ pub fn obey(bytes: &[u8], held: Settings, cells: &mut [u8]) -> Setup
     obey_read(held, cells)
 }
 
-// The sum of the levels of the sheet held.
+// The sum of the levels of the sheet held; 0 while there is none.
 pub fn sum_held(held: Settings, cells: &[u8]) -> usize
-    requires { ⌜ length (now cells) ≤ 65536 ⌝ }
-    ensures { λ r. ⌜ r ≡ sum (take (held .n) (now (cells .entry))) ⌝ }
+    ensures { λ r. ⌜ SumPromise held (now (cells .entry)) r ⌝ }
 {
-    let n = front(held.n, cells);
-    block::sum_of(&cells[..n])
+    if held.genuine() {
+        let n = front(held.n, cells);
+        return block::sum_of(&cells[..n]);
+    }
+    0
 }
 
-// The bits of the sheet held, into the first places of out, and no place after them touched; answers how many, 0 while there is no sheet.
+// The bits of the sheet held, into the first places of out, and no place after them touched; answers how many: none where the reading is refused, as while there is no sheet or too few places.
 pub fn bits_held(held: Settings, cells: &[u8], out: &mut [u8]) -> usize
-    requires { ⌜ mostBits ≤ length (now out) ⌝ }
-    ensures { λ r. ⌜ BitsShown held (now (cells .entry)) (now (out .entry)) (now (out .exit)) r ⌝ }
+    ensures { λ r. ⌜ BitsPromise held (now (cells .entry)) (now (out .entry)) r (now (out .exit)) ⌝ }
 {
     let n = front(held.n, cells);
     let answer = sheet::read(held, &cells[..n], out);

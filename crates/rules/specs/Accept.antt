@@ -54,7 +54,7 @@ placeOf nowhere = 0
 unfoldable pub stagesOf : ℕ → ℕ
 stagesOf k = placeOf (first (λ s. ℕ-discrete (2 ^ s) k) (suc mostStages))
 
--- the least w with (L + 1) ^ w at least k + 2
+-- the least w with (L + 1) ^ w at least k + 2; 0 where there is none, which is for L = 0 alone
 unfoldable pub indexWidth : ℕ → ℕ → ℕ
 indexWidth L k = placeOf (first (λ w. decLe (k + 2) (suc L ^ w)) (k + 2))
 
@@ -65,14 +65,9 @@ stagedRoom k L n s w =
     (require (decLe (indexCells s w) n) (require (decLe k ((n - indexCells s w) / k))
     (record { kind = 1; k = k; top = L; n = n; m = (n - indexCells s w) / k; s = s; w = w }))))
 
--- kind 1 with what the search for s found
-abbrev pub stagedWith : ℕ → ℕ → ℕ → Found → Settings
-stagedWith k L n (at s) = stagedRoom k L n s (indexWidth L k)
-stagedWith k L n nowhere = refused
-
--- kind 1: k is 4, 8, 16, 32 or 64, and s is the number with 2 ^ s = k
+-- kind 1: k is 4, 8, 16, 32 or 64, and s is the number with 2 ^ s = k; where there is none, 0 is below 2 and refused
 unfoldable pub acceptStaged : ℕ → ℕ → ℕ → Settings
-acceptStaged k L n = stagedWith k L n (first (λ s. ℕ-discrete (2 ^ s) k) (suc mostStages))
+acceptStaged k L n = stagedRoom k L n (stagesOf k) (indexWidth L k)
 
 -- the record for a kind, k, L and n; of zeros where they are refused
 abbrev pub accept : ℕ → ℕ → ℕ → ℕ → Settings

@@ -3,14 +3,14 @@ use mathlib.Core.Path.{_≡_, refl, sym, subst, _∙_}
 use mathlib.Core.Bool.{true, false, true≢false}
 use mathlib.Core.Logic.{_⊎_, inl, inr, ⊎-elim, _↔_}
 use Prim.Native.Nat.{ℕ, zero, suc, _+_, _-_, _*_, _/_, _%_, _^_, _≤_, _<_}
-use native.Mathlib.Nat.{not-suc-le-zero, div-mul-le-self, le-trans}
+use native.Mathlib.Nat.{not-suc-le-zero, div-mul-le-self}
 use native.Mathlib.Decide.{ℕ-discrete, decLe, decLt}
 use native.Mathlib.Omega.{arith}
 use lib.Pow.{pow-mono}
-use Rattle.rules.specs.Search.{pick, both?, Found, at, nowhere, first}
+use Rattle.rules.specs.Search.{pick, both?}
 use Rattle.rules.specs.SearchLaws.{pick-elim, pick-no}
 use Rattle.rules.specs.Batches.{indexCells}
-use Rattle.rules.specs.Accept.{mostBits, mostTop, mostCells, mostStages, refused, require, acceptPlain, placeOf, stagesOf, indexWidth, stagedRoom, stagedWith, acceptStaged, accept, again, Genuine, sameSettings?, genuine?}
+use Rattle.rules.specs.Accept.{mostBits, mostTop, mostCells, mostStages, refused, require, acceptPlain, stagesOf, indexWidth, stagedRoom, acceptStaged, accept, again, Genuine, sameSettings?, genuine?}
 use Rattle.rules.specs.declared.Settings.{Settings}
 use Rattle.rules.specs.StagesLaws.{stages-is, width-enough, width-least, width-below}
 
@@ -79,20 +79,11 @@ room-ruled k L n s w =
     rule (decLe k ((n - indexCells s w) / k)) (λ a. a .room) λ h₆.
     kept (record { stages-least = h₁; top-least = h₂; top-most = h₃; cells-most = h₄; index-room = h₅; room = h₆ })
 
--- and at what the search for s found
-found-ruled : (k L n : ℕ) (f : Found) →
-    Ruled
-    (StagedRules k L n (placeOf f) (indexCells (placeOf f) (indexWidth L k)))
-    (record { kind = 1; k = k; top = L; n = n; m = (n - indexCells (placeOf f) (indexWidth L k)) / k; s = placeOf f; w = indexWidth L k })
-    (stagedWith k L n f)
-found-ruled k L n (at s) = room-ruled k L n s (indexWidth L k)
-found-ruled k L n nowhere = broken (λ a. not-suc-le-zero (le-trans (a .stages-least) (omega arith)))
-
 -- kind 1 is accepted by its rules, at the s of k, the width and their I
 pub staged-ruled : (k L n s w I : ℕ) → s ≡ stagesOf k → w ≡ indexWidth L k → I ≡ indexCells s w →
     Ruled (StagedRules k L n s I) (record { kind = 1; k = k; top = L; n = n; m = (n - I) / k; s = s; w = w }) (acceptStaged k L n)
-unfolding acceptStaged stagesOf
-staged-ruled k L n s w I e₁ e₂ e₃ = rw (e₃, e₂, e₁) (found-ruled k L n (first (λ s. ℕ-discrete (2 ^ s) k) (suc mostStages)))
+unfolding acceptStaged
+staged-ruled k L n s w I e₁ e₂ e₃ = rw (e₃, e₂, e₁) (room-ruled k L n (stagesOf k) (indexWidth L k))
 
 -- no other kind is accepted
 pub other-refused : (kind k L n : ℕ) → ¬ (kind ≡ 0) → ¬ (kind ≡ 1) → accept kind k L n ≡ refused

@@ -9,10 +9,11 @@ use Rattle.rules.specs.Plain as P
 use Rattle.rules.specs.Staged.{readCells, changeCells}
 use Rattle.rules.specs.Batches as B
 use Rattle.rules.specs.Accept.{accept, genuine?, guarantee}
+use Rattle.rules.specs.Answer.{sortOf, ifMade}
 use Rattle.rules.specs.declared.Settings.{Settings}
 use Rattle.rules.specs.declared.Setup.{Setup}
 use Rattle.rules.specs.declared.Answer.{Answer}
-use Rattle.rules.specs.declared.Answer.the-variants.{Done, BadShape, BadLength, ShortOutput, BadBit, BadLevel, BadSheet, Erase, BadRecord}
+use Rattle.rules.specs.declared.Answer.the-variants.{Done, BadShape, BadLength, ShortOutput, BadBit, BadLevel, BadSheet, Erase}
 
 -- ---- what the cells of a sheet say, by the kind of its settings
 
@@ -63,17 +64,9 @@ pub data Check : Type 0 where
   Pass : Check
   Refuse : Answer → Check
 
--- an answer as a check's: Done passes, any other is its refusal
+-- an answer as a check's: one that is made passes, any other is its refusal
 abbrev pub asCheck : Answer → Check
-asCheck (Done v) = Pass
-asCheck BadShape = Refuse BadShape
-asCheck BadLength = Refuse BadLength
-asCheck ShortOutput = Refuse ShortOutput
-asCheck BadBit = Refuse BadBit
-asCheck (BadLevel c) = Refuse (BadLevel c)
-asCheck BadSheet = Refuse BadSheet
-asCheck Erase = Refuse Erase
-asCheck BadRecord = Refuse BadRecord
+asCheck a = ifMade (sortOf a) Pass (Refuse a)
 
 -- a check passes, or refuses with its answer
 abbrev pub ask : {A : Type 0} → Dec A → Answer → Check
@@ -144,6 +137,10 @@ pub record Outcome : Type 0 where
   pub answer : Answer
   pub sheet : List ℕ
 
+-- an answer with the sheet after it
+abbrev pub outcome : Answer → List ℕ → Outcome
+outcome a ys = record { answer = a; sheet = ys }
+
 -- a refusal leaves the sheet as it was
 abbrev pub erasing : Settings → List ℕ → Check → Outcome
 erasing r xs (Refuse a) = record { answer = a; sheet = xs }
@@ -171,6 +168,10 @@ changeCall r xs i = changing r xs i (changeChecks r xs i)
 pub record Reading : Type 0 where
   pub answer : Answer
   pub places : List ℕ
+
+-- an answer with the output after it
+abbrev pub readOut : Answer → List ℕ → Reading
+readOut a places = record { answer = a; places = places }
 
 -- a refusal leaves every place as it was
 abbrev pub reading : Settings → List ℕ → List ℕ → Check → Reading

@@ -1,4 +1,4 @@
--- The rules of document 01, as definitions, with the laws of searches and of settings.
+-- The rules of document 01, as definitions, with the laws of searches, of settings and of answers.
 pub mod Answer
 pub mod Search
 pub mod SearchLaws
@@ -12,8 +12,12 @@ pub mod Accept
 pub mod StagesLaws
 pub mod AcceptLaws
 pub mod GuaranteeLaws
+pub mod BatchLaws
 pub mod Calls
-pub mod Promises
 pub mod Records
+pub mod Interface
+pub mod Promises
+pub mod AnswerLaws
+pub mod PromiseLaws
 pub mod Numbers
 pub mod RuledOut

@@ -1,13 +1,15 @@
 -- What the drive program makes of one record (01, "The drive program"). Assumes nothing.
-use mathlib.Core.List.{List, _++_}
+use mathlib.Core.List.{List, [], _++_}
 use Prim.Native.Nat.{ℕ, zero, suc, _+_, _*_}
 use native.Mathlib.Decide.{ℕ-discrete, decLe, decLt}
 use lib.ListN.{length, getD, take, drop, replicate}
-use Rattle.rules.specs.Accept.{accept}
-use Rattle.rules.specs.Calls.{Check, Pass, Refuse, ask, andThen, eraseCall, changeCall, readCall}
+use Rattle.rules.specs.Cells.{sum}
+use Rattle.rules.specs.Accept.{accept, reported}
+use Rattle.rules.specs.Answer.{sortOf, ifMade}
+use Rattle.rules.specs.Calls.{Check, Pass, Refuse, ask, andThen, bitsOf, readChecks, eraseCall, changeCall, readCall}
 use Rattle.rules.specs.declared.Settings.{Settings}
 use Rattle.rules.specs.declared.Answer.{Answer}
-use Rattle.rules.specs.declared.Answer.the-variants.{Done, BadShape, BadLength, ShortOutput, BadBit, BadLevel, BadSheet, Erase, BadRecord}
+use Rattle.rules.specs.declared.Answer.the-variants.{BadRecord}
 
 -- ---- the bytes of a record
 
@@ -66,17 +68,9 @@ pub record Step : Type 0 where
 abbrev pub keep : Settings → List ℕ → Answer → Step
 keep r xs a = record { answer = a; settings = r; cells = xs }
 
--- the settings held after an erase that answered so
+-- the settings held after an erase that answered so: the new ones where it is made
 abbrev pub heldAfter : Settings → Settings → Answer → Settings
-heldAfter new r (Done v) = new
-heldAfter new r BadShape = r
-heldAfter new r BadLength = r
-heldAfter new r ShortOutput = r
-heldAfter new r BadBit = r
-heldAfter new r (BadLevel c) = r
-heldAfter new r BadSheet = r
-heldAfter new r Erase = r
-heldAfter new r BadRecord = r
+heldAfter new r a = ifMade (sortOf a) new r
 
 -- operation 1: new settings are accepted and their sheet is erased
 abbrev pub eraseStep : Settings → Settings → List ℕ → Step
@@ -109,3 +103,22 @@ byOperation (suc (suc (suc op))) rec r xs = passed (andThen (checkUnused rec) (c
 -- one record, with settings r held and the cells xs
 unfoldable pub recordStep : List ℕ → Settings → List ℕ → Step
 recordStep rec r xs = passed (checkForm rec) r xs (byOperation (operation rec) rec r xs)
+
+-- ---- what the program prints of the sheet held
+
+-- the sum of its levels; 0 while no sheet is held
+abbrev pub sumHeld : Settings → List ℕ → ℕ
+sumHeld r xs = reported r (sum (take (r .n) xs))
+
+-- bits are shown where a reading passes its checks
+abbrev pub shown : Check → List ℕ → List ℕ
+shown Pass bits = bits
+shown (Refuse a) bits = []
+
+-- its bits, bit 0 first, where these places take them; none while no sheet is held
+abbrev pub bitsHeld : Settings → List ℕ → List ℕ → List ℕ
+bitsHeld r xs out = shown (readChecks r (take (r .n) xs) out) (bitsOf r (take (r .n) xs))
+
+-- the places after them: the bits first, and every place after the bits as it was
+abbrev pub placesHeld : Settings → List ℕ → List ℕ → List ℕ
+placesHeld r xs out = bitsHeld r xs out ++ drop (length (bitsHeld r xs out)) out

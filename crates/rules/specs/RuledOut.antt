@@ -1,6 +1,6 @@
 -- Small examples of what docs/PROMISES.md rules out for the calls, the methods and the program: one table under one proof. Assumes nothing.
 use mathlib.Core.Path.{_≡_, refl}
-use mathlib.Core.List.{List, [], _∷_}
+use mathlib.Core.List.{List, [], _∷_, _++_}
 use Prim.Native.Nat.{ℕ}
 use native.Mathlib.Decide.{ℕ-discrete, decLe, decLt}
 use lib.ListN.{replicate}
@@ -8,9 +8,12 @@ use Rattle.rules.specs.Search.{all?, first}
 use Rattle.rules.specs.Cells.{firstAbove, same?, block, store}
 use Rattle.rules.specs.Block.{ramp, cycle, stateOf}
 use Rattle.rules.specs.Plain as P
-use Rattle.rules.specs.Accept.{acceptPlain, acceptStaged, indexWidth, accept, sameSettings?, genuine?, guarantee, reported, promised, blockCount, widthOf, batchStart}
-use Rattle.rules.specs.Calls.{eraseCall, changeCall, readCall, sound?, changeSheet}
-use Rattle.rules.specs.Records.{checkForm, checkUnused, checkHeld, recordStep}
+use Rattle.rules.specs.Stage.{absent?, names?, stageOk?, changeWithin}
+use Rattle.rules.specs.Staged as S
+use Rattle.rules.specs.Batches as B
+use Rattle.rules.specs.Accept.{refused, acceptPlain, acceptStaged, stagesOf, indexWidth, accept, sameSettings?, genuine?, guarantee, reported, promised, blockCount, widthOf, batchStart}
+use Rattle.rules.specs.Calls.{eraseCall, changeCall, readCall, sound?, readBit, changeSheet}
+use Rattle.rules.specs.Records.{checkForm, checkUnused, checkHeld, recordStep, sumHeld, bitsHeld, placesHeld}
 use Rattle.rules.specs.declared.Settings.{Settings}
 use Rattle.rules.specs.declared.Answer.{Answer}
 use Rattle.rules.specs.declared.Answer.the-variants.{Done, BadShape, BadLength, ShortOutput, BadBit, BadLevel, Erase, BadRecord}
@@ -23,7 +26,25 @@ plain5 = accept 0 2 1 5
 abbrev staged28 : Settings
 staged28 = accept 1 4 2 28
 
--- the same record with another m: acceptance never gives it
+-- staged, k = 8, L = 2, n = 148: eight blocks, and two batches of 42 cells from cell 64
+abbrev staged148 : Settings
+staged148 = accept 1 8 2 148
+
+-- of these settings, bits 0 and 1 at weight 1 and six full blocks: 4 parity blocks of stage 1 aren't full, and 8 of stage 2
+abbrev atStage0 : List ℕ
+atStage0 = 1 ∷ replicate 8 0 ++ (1 ∷ replicate 6 0 ++ (replicate 48 2 ++ replicate 84 0))
+
+-- of these settings, block j at weight 1 for bit j, for j from 0 to 6, and one full block
+abbrev sevenActive : List ℕ
+sevenActive =
+    1 ∷ replicate 8 0 ++ (1 ∷ replicate 8 0 ++ (1 ∷ replicate 8 0 ++ (1 ∷ replicate 8 0 ++ (1 ∷ replicate 8 0 ++ (1 ∷ replicate 8 0 ++ (1 ∷ replicate 1 0 ++ (replicate 8 2 ++ replicate 84 0)))))))
+
+-- what atStage0 becomes by a change of bit 2, at stage 2, with these cells in batch 1 and this level in the first cell of the fifth parity block
+abbrev atStage2 : List ℕ → ℕ → List ℕ
+atStage2 batch x =
+    1 ∷ 0 ∷ 1 ∷ 0 ∷ 1 ∷ 0 ∷ 0 ∷ 0 ∷ x ∷ 1 ∷ replicate 6 0 ++ (replicate 48 2 ++ (batch ++ (0 ∷ 0 ∷ 1 ∷ 0 ∷ 0 ∷ 2 ∷ 0 ∷ 1 ∷ 0 ∷ 0 ∷ 1 ∷ 1 ∷ 0 ∷ 1 ∷ 2 ∷ 0 ∷ 2 ∷ 0 ∷ 0 ∷ 2 ∷ 1 ∷ 0 ∷ 2 ∷ 2 ∷ replicate 18 2)))
+
+-- the record of 28 cells with another m: acceptance never gives it
 abbrev forged : Settings
 forged = record { kind = 1; k = 4; top = 2; n = 28; m = 5; s = 2; w = 2 }
 
@@ -52,25 +73,48 @@ pub record RuledOut : Type 0 where
   pub lowestEmpty : changeCall plain5 (replicate 5 0) 1 ≡ record { answer = Done 1; sheet = cells 0 1 0 0 0 }
   -- where there is no place the sheet stays as it was
   pub noPlace : Kept (cells 1 1 0 1 0) 0 Erase
+  -- a move goes to the next stage, here 1, and not to a later one in which at least k parity blocks aren't full too: 4 levels in the blocks, and the digits of 1 to 8
+  pub nextStage : changeCall staged148 sevenActive 7 .answer ≡ Done 22
+  -- a stage with fewer than k parity blocks that aren't full is passed over, and the move goes to stage 2
+  pub stagePassed : changeCall staged148 atStage0 2 ≡ record { answer = Done 57; sheet = atStage2 (replicate 42 0) 1 }
+  -- at stage 2 batch 1 is no longer looked at, whatever it holds
+  pub lowerBatch : readCall staged148 (atStage2 (1 ∷ replicate 41 2) 1) (replicate 8 9) ≡ record { answer = Done 3; places = 1 ∷ 1 ∷ 1 ∷ replicate 5 0 }
+  -- a change at stage 2 raises the bit's own parity block
+  pub ownBlock : changeCall staged148 (atStage2 (replicate 42 0) 1) 4 ≡ record { answer = Done 1; sheet = atStage2 (replicate 42 0) 2 }
   -- a record that acceptance never gives has no guarantee
   pub noGuarantee : promised forged ≡ 0
-  -- it has no blocks
+  -- a record that acceptance never gives has no blocks
   pub noBlocks : blockCount forged ≡ 0
-  -- it has no width
+  -- a record that acceptance never gives has no width
   pub noWidth : widthOf forged ≡ 0
   -- batch 1 starts straight after the blocks, and not where a batch 2 would
   pub batch1 : batchStart staged28 1 ≡ 16
-  -- there is no batch 2: it would start past the sheet
+  -- of two batches the first stands first
+  pub firstOfTwo : batchStart staged148 1 ≡ 64
+  -- of two batches the second stands after the first
+  pub secondOfTwo : batchStart staged148 2 ≡ 106
+  -- there is no batch 2 where s is 2: it would start past the sheet
   pub batch2 : batchStart staged28 2 ≡ 0
   -- the program tests for BadRecord (here n = 4) before BadBit
   pub recordFirst : recordStep (2 ∷ 0 ∷ 2 ∷ 1 ∷ 4 ∷ 0 ∷ 9 ∷ 0 ∷ []) plain5 (cells 0 1 0 0 0) ≡ record { answer = BadRecord; settings = plain5; cells = cells 0 1 0 0 0 }
+  -- the sum held is that of the sheet's n cells, and not of cells after them
+  pub sumOfTheSheet : sumHeld plain5 (1 ∷ cells 0 0 0 0 9) ≡ 1
+  -- while no sheet is held the sum is 0
+  pub sumOfNone : sumHeld refused (cells 1 0 0 0 0) ≡ 0
+  -- the bits held are the k bits
+  pub bitsOfTheSheet : bitsHeld plain5 (cells 0 1 0 0 0) (9 ∷ 9 ∷ 9 ∷ []) ≡ 0 ∷ 1 ∷ []
+  -- no place after the bits held is written
+  pub placeAfter : placesHeld plain5 (cells 0 1 0 0 0) (9 ∷ 9 ∷ 9 ∷ []) ≡ 0 ∷ 1 ∷ 9 ∷ []
+  -- no bit is held while no sheet is
+  pub bitsOfNone : bitsHeld refused (cells 0 1 0 0 0) (9 ∷ 9 ∷ 9 ∷ []) ≡ []
   -- a refused erase (k = 3 with L = 1) keeps the sheet held
   pub sheetKept : recordStep (1 ∷ 0 ∷ 3 ∷ 1 ∷ 9 ∷ 0 ∷ 0 ∷ 0 ∷ []) plain5 (cells 0 1 0 0 0) ≡ record { answer = BadShape; settings = plain5; cells = cells 0 1 0 0 0 }
 
 -- every example is what the definitions compute
 pub ruled-out : RuledOut
-unfolding eraseCall changeCall readCall sound? changeSheet genuine? sameSettings? guarantee reported batchStart acceptPlain acceptStaged indexWidth firstAbove recordStep checkForm checkUnused checkHeld
-    P.sound? P.blocksOk? P.change P.plan P.bitOf P.states all? first same? block store stateOf cycle ramp ℕ-discrete decLe decLt
+unfolding eraseCall changeCall readCall sound? readBit changeSheet genuine? sameSettings? guarantee reported batchStart acceptPlain acceptStaged stagesOf indexWidth firstAbove recordStep checkForm checkUnused checkHeld
+    P.sound? P.blocksOk? P.read P.change P.plan P.bitOf P.states S.read S.change S.readCells S.changeCells S.sheetOk? B.sound? B.decode B.batch B.entryOf B.number B.digits
+    stageOk? names? absent? changeWithin all? first same? block store stateOf cycle ramp ℕ-discrete decLe decLt
 ruled-out = record {
   erasesAll = refl;
   erasesNothing = refl;
@@ -80,11 +124,22 @@ ruled-out = record {
   levelNext = refl;
   lowestEmpty = refl;
   noPlace = refl;
+  nextStage = refl;
+  stagePassed = refl;
+  lowerBatch = refl;
+  ownBlock = refl;
   noGuarantee = refl;
   noBlocks = refl;
   noWidth = refl;
   batch1 = refl;
+  firstOfTwo = refl;
+  secondOfTwo = refl;
   batch2 = refl;
   recordFirst = refl;
+  sumOfTheSheet = refl;
+  sumOfNone = refl;
+  bitsOfTheSheet = refl;
+  placeAfter = refl;
+  bitsOfNone = refl;
   sheetKept = refl;
 }

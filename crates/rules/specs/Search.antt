@@ -28,6 +28,7 @@ abbrev pub not? : {A : Type 0} → Dec A → Dec (¬ A)
 not? (yes a) = no (λ f. f a)
 not? (no h) = yes h
 
+-- every place below m + 1, from those below m and m itself
 abbrev allMore : {P : ℕ → Type 0} (m : ℕ) → Dec ((j : ℕ) → j < m → P j) → Dec (P m) → Dec ((j : ℕ) → j < suc m → P j)
 allMore {P} m (yes a) (yes h) = yes (λ j l. ⊎-elim (λ e. subst P (sym e) h) (λ q. a j q) (eq-or-lt-of-le (le-of-suc-le-suc l)))
 allMore m (yes a) (no h) = no (λ f. h (f m (le-refl (suc m))))

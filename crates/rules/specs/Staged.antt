@@ -44,7 +44,7 @@ moveTo s m L d xs vs =
     staged d (join (recordAll (parityLength d * L) L vs (parityBlocks s m d xs)))
     (recordedEntries (parityLength d * L) L 1 vs (parityBlocks s m d xs) ++ replicate (indexBlocks s - liveCount s m L d xs) closed)
 
--- the first later stage, with d left and fewer, in which at least k parity blocks aren't full
+-- the first stage after the one with d left in which at least k parity blocks aren't full
 abbrev pub later : ℕ → ℕ → ℕ → ℕ → List ℕ → List ℕ → Result Sheet
 later s m L zero xs vs = noPlace
 later s m L (suc d) xs vs = pick (decLe (2 ^ s) (liveCount s m L d xs)) (done (moveTo s m L d xs vs)) (later s m L d xs vs)

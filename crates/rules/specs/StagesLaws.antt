@@ -1,7 +1,7 @@
 -- Laws of s and w: what the searches for the number of stages and for the width of an index block find. Assumes nothing.
 use mathlib.Core.Path.{_≡_, refl, sym, ap, _∙_}
 use Prim.Native.Nat.{ℕ, zero, suc, _+_, _*_, _%_, _^_, _≤_, _<_}
-use native.Mathlib.Nat.{lt-irrefl, one-mul, pow-suc, mul-mod-left, mul-div-left, not-suc-le-zero, pow-le-pow-left}
+use native.Mathlib.Nat.{lt-irrefl, le-antisymm, one-mul, pow-suc, mul-mod-left, mul-div-left, not-suc-le-zero, pow-le-pow-left}
 use native.Mathlib.Decide.{ℕ-discrete, decLe}
 use native.Mathlib.Omega.{arith}
 use lib.Dec.{lit<}
@@ -44,10 +44,14 @@ trailing-pow zero s h = omega arith
 trailing-pow (suc d) zero h = refl
 trailing-pow (suc d) (suc s) h = rw (pow-suc 2 s, mul-mod-left (2 ^ s) 2, mul-div-left (2 ^ s) (lit< tt)) (ap suc (trailing-pow d s (omega arith)))
 
+-- an s up to 6 with 2 ^ s = k is the one that is found
+pub stages-only : (k s : ℕ) → s ≤ mostStages → 2 ^ s ≡ k → stagesOf k ≡ s
+unfolding stagesOf
+stages-only k s h e = ap placeOf (first-eq (λ s. ℕ-discrete (2 ^ s) k) (suc mostStages) (hit s (omega arith) e (λ i l g. lt-irrefl (2 ^ i) (rw (e ∙ sym g) at (pow-lt l)))))
+
 -- s is the number of zeros below the lowest digit of k, where that is at most 6 and k has no other digit
 pub stages-zeros : (k : ℕ) → trailingZeros 64 k ≤ mostStages → 2 ^ trailingZeros 64 k ≡ k → stagesOf k ≡ trailingZeros 64 k
-unfolding stagesOf
-stages-zeros k h e = ap placeOf (first-eq (λ s. ℕ-discrete (2 ^ s) k) (suc mostStages) (hit (trailingZeros 64 k) (omega arith) e (λ i l g. lt-irrefl (2 ^ i) (rw (e ∙ sym g) at (pow-lt l)))))
+stages-zeros k h e = stages-only k (trailingZeros 64 k) h e
 
 -- there is no s otherwise
 pub stages-none : (k : ℕ) → (trailingZeros 64 k ≤ mostStages → ¬ (2 ^ trailingZeros 64 k ≡ k)) → stagesOf k ≡ 0
@@ -87,6 +91,10 @@ width-least L k h v g = go (width-first L k h)
   where
     go : {w : ℕ} → First (λ v. k + 2 ≤ suc L ^ v) (k + 2) (at w) → w ≤ v
     go (hit w l p b) = let q : ¬ (v < w) = λ q. b v q g in omega arith
+
+-- so a least width is the one that is found
+pub width-only : (L k w : ℕ) → 1 ≤ L → k + 2 ≤ suc L ^ w → ((v : ℕ) → k + 2 ≤ suc L ^ v → w ≤ v) → indexWidth L k ≡ w
+width-only L k w h e f = le-antisymm (width-least L k h w e) (f (indexWidth L k) (width-enough L k h))
 
 -- the width is small
 pub width-below : (L k : ℕ) → 1 ≤ L → indexWidth L k < k + 2

@@ -4,9 +4,10 @@ ghost use mathlib.Core.Bool.{true, false};
 ghost use Prim.Native.Nat.{_+_, _-_, _*_, _≤_, _<_};
 ghost use Rattle.rules.specs.Search.{pick};
 ghost use Rattle.rules.specs.Batches.{batchCells, indexCells};
-ghost use Rattle.rules.specs.Accept.{mostBits, mostTop, mostStages, acceptPlain, stagesOf, indexWidth, acceptStaged, accept, Genuine, sameSettings?, genuine?, guarantee, promised, blockCount, widthOf, batchStart};
+ghost use Rattle.rules.specs.Accept.{mostBits, mostTop, mostStages, acceptPlain, stagesOf, indexWidth, acceptStaged, Genuine, sameSettings?, guarantee};
 ghost use Rattle.rules.specs.AcceptLaws.{PlainFacts, StagedFacts};
-ghost use Rattle.rules.specs.Calls.{settingsCall};
+ghost use Rattle.rules.specs.Answer.{numberOf, valueOf};
+ghost use Rattle.rules.specs.Promises.{SettingsPromise, WorkOutPromise, GenuinePromise, GuaranteePromise, BlocksPromise, WidthPromise, BatchStartPromise};
 use crate::Answer;
 use crate::REFUSED;
 use crate::Settings;
@@ -27,7 +28,7 @@ const MOST_CELLS: usize = 16384;
 impl Settings {
     // The call: the guarantee and the record, or BadShape and the record of zeros.
     pub fn accept(kind: usize, k: usize, top: usize, n: usize) -> Setup
-        ensures { λ r. ⌜ r ≡ settingsCall kind k top n ⌝ }
+        ensures { λ r. ⌜ SettingsPromise kind k top n (numberOf (r .answer)) (valueOf (r .answer)) (r .settings) ⌝ }
     {
         let settings = Settings::work_out(kind, k, top, n);
         if settings.k == 0 {
@@ -45,7 +46,7 @@ impl Settings {
 
     // The record for any four numbers; of zeros where they are refused.
     pub fn work_out(kind: usize, k: usize, top: usize, n: usize) -> Settings
-        ensures { λ r. ⌜ r ≡ accept kind k top n ⌝ }
+        ensures { λ r. ⌜ WorkOutPromise kind k top n r ⌝ }
     {
         if kind == 0 {
             return accept_plain(k, top, n);
@@ -58,7 +59,7 @@ impl Settings {
 
     // Is this a record that acceptance gives? It is worked out again, and every field compared.
     pub fn genuine(self) -> bool
-        ensures { λ r. ⌜ r ≡ pick (genuine? self) true false ⌝ }
+        ensures { λ r. ⌜ GenuinePromise self r ⌝ }
     {
         if self.k == 0 {
             return false;
@@ -69,7 +70,7 @@ impl Settings {
 
     // The guarantee; 0 for a record that acceptance never gives.
     pub fn guarantee(self) -> usize
-        ensures { λ r. ⌜ r ≡ promised self ⌝ }
+        ensures { λ r. ⌜ GuaranteePromise self r ⌝ }
     {
         if self.genuine() {
             return self.formula();
@@ -106,7 +107,7 @@ impl Settings {
 
     // The number of blocks of k cells; 0 for a record that acceptance never gives.
     pub fn blocks(self) -> usize
-        ensures { λ r. ⌜ r ≡ blockCount self ⌝ }
+        ensures { λ r. ⌜ BlocksPromise self r ⌝ }
     {
         if self.genuine() {
             return self.m;
@@ -116,7 +117,7 @@ impl Settings {
 
     // The cells of an index block; 0 for a plain sheet, and for a record that acceptance never gives.
     pub fn width(self) -> usize
-        ensures { λ r. ⌜ r ≡ widthOf self ⌝ }
+        ensures { λ r. ⌜ WidthPromise self r ⌝ }
     {
         if self.genuine() {
             return self.w;
@@ -126,7 +127,7 @@ impl Settings {
 
     // The first cell of a batch from 1 to s - 1; 0 for any other, and for a record that acceptance never gives.
     pub fn batch_start(self, batch: usize) -> usize
-        ensures { λ r. ⌜ r ≡ batchStart self batch ⌝ }
+        ensures { λ r. ⌜ BatchStartPromise self batch r ⌝ }
     {
         if batch < 1 {
             return 0;

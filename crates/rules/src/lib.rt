@@ -1,6 +1,5 @@
 // The types that every crate shares: the settings of a sheet, the answer of a call, and a look at a sheet. Assumes nothing.
-ghost use mathlib.Core.Path.{_≡_};
-ghost use Rattle.rules.specs.Answer.{numberOf, valueOf};
+ghost use Rattle.rules.specs.Promises.{NumberPromise, ValuePromise};
 
 mod acceptance;
 
@@ -61,7 +60,7 @@ pub struct Look {
 impl Answer {
     // The answer's number.
     pub fn number(self) -> usize
-        ensures { λ r. ⌜ r ≡ numberOf self ⌝ }
+        ensures { λ r. ⌜ NumberPromise self r ⌝ }
     {
         match self {
             Answer::Done(_) => 0,
@@ -78,7 +77,7 @@ impl Answer {
 
     // The answer's value: 0 unless a rule names another.
     pub fn value(self) -> usize
-        ensures { λ r. ⌜ r ≡ valueOf self ⌝ }
+        ensures { λ r. ⌜ ValuePromise self r ⌝ }
     {
         match self {
             Answer::Done(v) => v,

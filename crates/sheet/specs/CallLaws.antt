@@ -8,10 +8,9 @@ use native.Mathlib.Omega.{arith}
 use lib.ListN.{length, getD, drop}
 use Rattle.rules.specs.Accept.{Genuine, blockCount, genuine?}
 use Rattle.rules.specs.AcceptLaws.{PlainFacts, StagedFacts, genuine-common}
-use Rattle.rules.specs.Calls.{Check, Pass, andThen, ask, asCheck, bitsOf, changeCall, changing, checkBit, checkLength, checkLevels, checkShape, checkSheet, readBit, readCall, reading, sheetChecks, sound?}
+use Rattle.rules.specs.Calls.{Check, Pass, andThen, ask, asCheck, bitsOf, changeCall, changing, checkBit, checkLength, checkLevels, checkShape, checkSheet, readBit, readCall, reading, sheetChecks, sound?, outcome, readOut}
 use Rattle.rules.specs.Cells.{sum}
 use Rattle.rules.specs.GuaranteeLaws.{reported-is, reported-none}
-use Rattle.rules.specs.Promises.{outcome, readOut}
 use Rattle.rules.specs.declared.Answer.{Answer}
 use Rattle.rules.specs.declared.Answer.the-variants.{BadShape, BadSheet, Done}
 use Rattle.rules.specs.declared.Look.{Look}

@@ -12,8 +12,7 @@ use Rattle.rules.specs.Cells.{same?, block, store}
 use Rattle.rules.specs.Block.{cycle}
 use Rattle.rules.specs.Plain.{BlocksOk, Spare, blocksOk?}
 use Rattle.rules.specs.AcceptLaws.{PlainFacts}
-use Rattle.rules.specs.Calls.{Sound, asCheck}
-use Rattle.rules.specs.Promises.{outcome}
+use Rattle.rules.specs.Calls.{Sound, asCheck, outcome}
 use Rattle.rules.specs.declared.Settings.{Settings}
 use Rattle.rules.specs.declared.Answer.the-variants.{BadSheet, Done, Erase}
 use Rattle.rules.specs.declared.Look.{Look}

@@ -14,7 +14,7 @@ use Rattle.rules.specs.Cells.{Low, sum, tabulate, chop}
 use Rattle.rules.specs.Staged.{parityLength, parityCount, liveCount, after, later, change, moveTo, written, changeCells}
 use Rattle.rules.specs.Batches.{batchCells, batch, decode, write}
 use Rattle.rules.specs.AcceptLaws.{StagedFacts, staged-bits}
-use Rattle.rules.specs.Calls.{Sound, changeSheet}
+use Rattle.rules.specs.Calls.{Sound, changeSheet, outcome}
 use Rattle.rules.specs.declared.Settings.{Settings}
 use Rattle.laws.specs.Parity.{half-live}
 use Rattle.laws.specs.Calls.{sheet-maps}
@@ -22,7 +22,6 @@ use Rattle.laws.specs.Kinds.{staged-change}
 use Rattle.laws.specs.Lists.{low-take}
 use Rattle.laws.specs.Live.{live}
 use Rattle.laws.specs.Splice.{part}
-use Rattle.rules.specs.Promises.{outcome}
 use Rattle.rules.specs.declared.Answer.the-variants.{Done, Erase}
 use Rattle.block.specs.StateLaws.{sum-zero}
 use Rattle.moving.specs.Meaning.{Roomy}

@@ -10,9 +10,8 @@ use lib.ListN.{length, getD, take, drop, replicate, set, length-append, length-d
 use lib.Seq.{drop-append-add, length-take-le, take-all}
 use Rattle.rules.specs.AcceptLaws.{StagedFacts, staged-bits}
 use Rattle.rules.specs.Batches.{batch, batchCells, decode, digits, entryCells, write}
-use Rattle.rules.specs.Calls.{Sound, changeSheet}
+use Rattle.rules.specs.Calls.{Sound, changeSheet, outcome}
 use Rattle.rules.specs.Cells.{Low, block, join, store, sum, tabulate}
-use Rattle.rules.specs.Promises.{outcome}
 use Rattle.rules.specs.Search.{at, done, pick}
 use Rattle.rules.specs.SearchLaws.{pick-no, pick-yes}
 use Rattle.rules.specs.Stage.{Entry, Within, beyond, changeWithin, closed, index, raise, stay}

@@ -16,8 +16,7 @@ use Rattle.rules.specs.Staged.{stage0, after, later, written, changeCells, from
 use Rattle.rules.specs.Staged as S
 use Rattle.rules.specs.Batches.{decode, write}
 use Rattle.rules.specs.AcceptLaws.{StagedFacts, staged-bits}
-use Rattle.rules.specs.Calls.{Pass, Sound, asCheck, changeSheet}
-use Rattle.rules.specs.Promises.{outcome}
+use Rattle.rules.specs.Calls.{Pass, Sound, asCheck, changeSheet, outcome}
 use Rattle.rules.specs.declared.Look.{Look}
 use Rattle.rules.specs.declared.Settings.{Settings}
 use Rattle.rules.specs.declared.Answer.the-variants.{Done}

@@ -11,8 +11,7 @@ use rules::Settings;
 ghost use mathlib.Core.Path.{_≡_};
 ghost use Prim.Native.Nat.{_<_};
 ghost use Rattle.rules.specs.AcceptLaws.{PlainFacts};
-ghost use Rattle.rules.specs.Promises.{outcome};
-ghost use Rattle.rules.specs.declared.Answer.the-variants.{BadSheet};
+ghost use Rattle.rules.specs.Calls.{outcome};
 ghost use Rattle.sheet.specs.Meaning.{Levelled, LookOf, SeenPlain, Sized, fromSheet};
 
 // Check 6: the spare cells are 0, and the blocks keep the rules.

@@ -26,7 +26,7 @@ ghost use native.Mathlib.Decide.{ℕ-discrete};
 ghost use lib.ListN.{getD, take};
 ghost use Rattle.rules.specs.AcceptLaws.{StagedFacts};
 ghost use Rattle.rules.specs.Cells.{sum, tabulate};
-ghost use Rattle.rules.specs.Promises.{outcome};
+ghost use Rattle.rules.specs.Calls.{outcome};
 ghost use Rattle.rules.specs.Search.{at, nowhere, pick};
 ghost use Rattle.rules.specs.Staged.{after};
 ghost use Rattle.staged.specs.Meaning.{asFound, asLater, laterLeft};

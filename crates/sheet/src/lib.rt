@@ -17,12 +17,13 @@ use rules::Look;
 use rules::Settings;
 ghost use mathlib.Core.Path.{_≡_};
 ghost use Rattle.rules.specs.Accept.{Genuine};
+ghost use Rattle.rules.specs.Answer.{numberOf, valueOf};
 ghost use Rattle.rules.specs.Promises.{ErasePromise, ReadPromise, ChangePromise};
 ghost use Rattle.sheet.specs.Meaning.{Levelled, LookAt, LookOf, Sized, sizesOf, unseen};
 
 // Erase: all n cells are set to 0, and the guarantee is answered.
 pub fn erase(settings: Settings, sheet: &mut [u8]) -> Answer
-    ensures { λ r. ⌜ ErasePromise settings (now (sheet .entry)) r (now (sheet .exit)) ⌝ }
+    ensures { λ r. ⌜ ErasePromise settings (now (sheet .entry)) (numberOf r) (valueOf r) (now (sheet .exit)) ⌝ }
 {
     let size = check_size(settings, settings.blocks(), sheet.len());
     let Answer::Done(_) = size else {
@@ -73,7 +74,7 @@ fn look_at(settings: Settings, sizes: Sizes, sheet: &[u8], asked: Asked) -> Look
 
 // Read: the k bits are written, 0 or 1, bit 0 first, and no place after them is touched.
 pub fn read(settings: Settings, sheet: &[u8], out: &mut [u8]) -> Answer
-    ensures { λ r. ⌜ ReadPromise settings (now (sheet .entry)) (now (out .entry)) r (now (out .exit)) ⌝ }
+    ensures { λ r. ⌜ ReadPromise settings (now (sheet .entry)) (now (out .entry)) (numberOf r) (valueOf r) (now (out .exit)) ⌝ }
 {
     let look = look_at(
         settings,
@@ -91,7 +92,7 @@ pub fn read(settings: Settings, sheet: &[u8], out: &mut [u8]) -> Answer
 
 // Change: the sheet of the encoding map for the bit named, and the levels raised; or Erase where it finds no place.
 pub fn change(settings: Settings, sheet: &mut [u8], bit: usize) -> Answer
-    ensures { λ r. ⌜ ChangePromise settings (now (sheet .entry)) bit r (now (sheet .exit)) ⌝ }
+    ensures { λ r. ⌜ ChangePromise settings (now (sheet .entry)) bit (numberOf r) (valueOf r) (now (sheet .exit)) ⌝ }
 {
     let sizes = sizes_of(settings);
     let look = look_at(settings, sizes, sheet, Asked::Bit(bit));

@@ -1,7 +1,8 @@
 -- Change across the boundary.
-use Rattle.rules.specs.Calls.{changeCall}
+use Prim.Native.Nat.{ℕ}
+use Rattle.rules.specs.Promises.{ChangePromise}
+use Rattle.rules.specs.PromiseLaws.{across}
 use Rattle.rules.specs.declared.Settings.{Settings}
-use Rattle.capi.specs.Laws.{crossed}
 use borrow.Author.Needs.{needs}
 use Rattle.capi.proofs.harpginger_change.Statement.{statement}
 use Rattle.capi.proofs.harpginger_change.Tie as tie
@@ -25,7 +26,7 @@ returns : tie.Need-returns
 returns c =
     let e = c .before .before .before .before in
     let o = e .before .before .before .before .before in
-    crossed (λ (r : Settings). changeCall r (o .args .sheet .now) (o .args .bit)) (e .before .before .record-of .ensures) (e .change .ensures) (c .number .ensures) (c .before .value .ensures)
+    across (λ (r : Settings) (num v : ℕ). ChangePromise r (o .args .sheet .now) (o .args .bit) num v (e .change .last .1 .0)) (e .before .before .record-of .ensures) (c .number .ensures) (c .before .value .ensures) (e .change .ensures)
 
 pub harpginger-change-spec : {M : Type 1} → statement M
 harpginger-change-spec =

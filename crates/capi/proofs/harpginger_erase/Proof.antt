@@ -1,7 +1,8 @@
 -- Erase across the boundary.
-use Rattle.rules.specs.Calls.{eraseCall}
+use Prim.Native.Nat.{ℕ}
+use Rattle.rules.specs.Promises.{ErasePromise}
+use Rattle.rules.specs.PromiseLaws.{across}
 use Rattle.rules.specs.declared.Settings.{Settings}
-use Rattle.capi.specs.Laws.{crossed}
 use borrow.Author.Needs.{needs}
 use Rattle.capi.proofs.harpginger_erase.Statement.{statement}
 use Rattle.capi.proofs.harpginger_erase.Tie as tie
@@ -25,7 +26,7 @@ returns : tie.Need-returns
 returns c =
     let e = c .before .before .before .before in
     let o = e .before .before .before .before .before in
-    crossed (λ (r : Settings). eraseCall r (o .args .sheet .now)) (e .before .before .record-of .ensures) (e .erase .ensures) (c .number .ensures) (c .before .value .ensures)
+    across (λ (r : Settings) (num v : ℕ). ErasePromise r (o .args .sheet .now) num v (e .erase .last .1 .0)) (e .before .before .record-of .ensures) (c .number .ensures) (c .before .value .ensures) (e .erase .ensures)
 
 pub harpginger-erase-spec : {M : Type 1} → statement M
 harpginger-erase-spec =

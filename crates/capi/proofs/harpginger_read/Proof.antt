@@ -1,7 +1,8 @@
 -- Read across the boundary.
-use Rattle.rules.specs.Calls.{readCall}
+use Prim.Native.Nat.{ℕ}
+use Rattle.rules.specs.Promises.{ReadPromise}
+use Rattle.rules.specs.PromiseLaws.{across}
 use Rattle.rules.specs.declared.Settings.{Settings}
-use Rattle.capi.specs.Laws.{crossed-read}
 use borrow.Author.Needs.{needs}
 use Rattle.capi.proofs.harpginger_read.Statement.{statement}
 use Rattle.capi.proofs.harpginger_read.Tie as tie
@@ -25,7 +26,7 @@ returns : tie.Need-returns
 returns c =
     let e = c .before .before .before .before in
     let o = e .before .before .before .before .before .before in
-    crossed-read (λ (r : Settings). readCall r (o .args .sheet .now) (o .args .out .now)) (e .before .before .record-of .ensures) (e .read .ensures) (c .number .ensures) (c .before .value .ensures)
+    across (λ (r : Settings) (num v : ℕ). ReadPromise r (o .args .sheet .now) (o .args .out .now) num v (e .read .last .1 .1 .0)) (e .before .before .record-of .ensures) (c .number .ensures) (c .before .value .ensures) (e .read .ensures)
 
 pub harpginger-read-spec : {M : Type 1} → statement M
 harpginger-read-spec =

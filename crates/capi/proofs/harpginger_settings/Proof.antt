@@ -4,10 +4,9 @@ use native.Mathlib.Decide.{ℕ-discrete}
 use native.Mathlib.Omega.{arith}
 use lib.ListN.{length-set}
 use Rattle.rules.specs.Answer.{numberOf, valueOf}
+use Rattle.rules.specs.Interface.{numbersOf}
 use Rattle.rules.specs.SearchLaws.{pick-yes, pick-no}
-use Rattle.rules.specs.declared.Setup.{Setup}
 use Rattle.capi.specs.Laws.{seven-set}
-use Rattle.capi.specs.Meaning.{numbersOf}
 use borrow.Author.Needs.{needs}
 use Rattle.capi.proofs.harpginger_settings.Statement.{statement}
 use Rattle.capi.proofs.harpginger_settings.Tie as tie
@@ -15,7 +14,7 @@ use Rattle.capi.proofs.harpginger_settings.Tie as tie
 returns : tie.Need-returns
 returns c =
     let e = pick-no (ℕ-discrete _ 7) _ _ (c .if1 .taken) in
-    (sym (ap numberOf e), (sym (ap valueOf e), sym (pick-no (ℕ-discrete _ 7) _ _ (c .if1 .taken))))
+    record { number = sym (ap numberOf e); value = sym (ap valueOf e); leaves = sym (pick-no (ℕ-discrete _ 7) _ _ (c .if1 .taken)) }
 
 accept-requires : tie.Need-accept-requires
 accept-requires c κs = search needs
@@ -55,13 +54,13 @@ returns-2 c =
     let x = c .before .before .before in
     let o = x .before .before .before in
     let l = x .before .if1 .left in
-    let q = pick-yes (ℕ-discrete _ 7) _ _ l in (
-      c .number .ensures ∙ ap (λ (y : Setup). numberOf (y .answer)) (x .accept .ensures) ∙ sym (ap numberOf q),
-      (
-        c .before .value .ensures ∙ ap (λ (y : Setup). valueOf (y .answer)) (x .accept .ensures) ∙ sym (ap valueOf q),
-        seven-set (o .args .numbers .now) (x .accept .result .settings) l ∙ ap (λ (y : Setup). numbersOf (y .settings)) (x .accept .ensures) ∙ sym (pick-yes (ℕ-discrete _ 7) _ _ l),
-      ),
-    )
+    let q = pick-yes (ℕ-discrete _ 7) _ _ l in
+    let p = x .accept .ensures in
+    record {
+      number = c .number .ensures ∙ p .number ∙ sym (ap numberOf q);
+      value = c .before .value .ensures ∙ p .value ∙ sym (ap valueOf q);
+      leaves = seven-set (o .args .numbers .now) (x .accept .result .settings) l ∙ ap numbersOf (p .leaves) ∙ sym (pick-yes (ℕ-discrete _ 7) _ _ l);
+    }
 
 pub harpginger-settings-spec : {M : Type 1} → statement M
 harpginger-settings-spec =

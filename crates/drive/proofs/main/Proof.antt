@@ -1,4 +1,4 @@
--- The lengths of the cells, of the input and of the output stay.
+-- The lengths of the input and of the output stay.
 use mathlib.Core.Path.{_≡_}
 use lib.ListN.{length}
 use borrow.Author.Needs.{needs}
@@ -6,7 +6,7 @@ use Rattle.drive.proofs.main.Statement.{statement}
 use Rattle.drive.proofs.main.Tie as tie
 
 abbrev Inv-loop : tie.InvT-loop
-Inv-loop cells₀ bytes₀ out₀ held₀ turns₀ cells bytes out held turns = (length cells ≡ 16384) × (length bytes ≡ 65536) × (length out ≡ 65536)
+Inv-loop cells₀ bytes₀ out₀ held₀ turns₀ cells bytes out held turns = (length bytes ≡ 65536) × (length out ≡ 65536)
 
 abbrev μ-loop : tie.MeasureT-loop
 μ-loop cells₀ bytes₀ out₀ held₀ turns₀ cells bytes out held turns = turns

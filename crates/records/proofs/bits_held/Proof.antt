@@ -25,7 +25,7 @@ returns c =
     let n = c .before in
     let e = n .before .before .before in
     let s = e .before .before .before .before .before .before in
-    bits-done (s .args .held) (s .args .cells .now) _ _ _ (e .read .result) (s .pre) (e .before .before .before .front .ensures) (e .read .ensures) (sym (n .number .ensures) ∙ c .if1 .taken)
+    bits-done (s .args .held) (s .args .cells .now) _ _ _ (e .read .result) (e .before .before .before .front .ensures) (e .read .ensures) (sym (n .number .ensures) ∙ c .if1 .taken)
 
 same-length-2 : tie.Need-same-length-2
 same-length-2 c = search needs
@@ -35,7 +35,7 @@ returns-2 c =
     let n = c .before in
     let e = n .before .before .before in
     let s = e .before .before .before .before .before .before in
-    bits-none (s .args .held) (s .args .cells .now) _ _ _ (e .read .result) (s .pre) (e .before .before .before .front .ensures) (e .read .ensures) (λ z. c .if1 .left (n .number .ensures ∙ z))
+    bits-none (s .args .held) (s .args .cells .now) _ _ _ (e .read .result) (e .before .before .before .front .ensures) (e .read .ensures) (λ z. c .if1 .left (n .number .ensures ∙ z))
 
 pub bits-held-spec : {M : Type 1} → statement M
 bits-held-spec =

@@ -5,7 +5,7 @@ use Rattle.rules.specs.declared.Settings.{Settings}
 use native.Mathlib.Omega.{arith}
 use Rattle.rules.specs.Calls.{asCheck}
 use Rattle.laws.specs.Calls.{not-done, refusal-told}
-use Rattle.records.specs.Laws.{record-first, record-form, work-one, work-two, work-three}
+use Rattle.records.specs.Laws.{record-first, record-form, step-told, work-one, work-two, work-three}
 use borrow.Author.Needs.{needs}
 use Rattle.records.proofs.obey.Statement.{statement}
 use Rattle.records.proofs.obey.Tie as tie
@@ -19,7 +19,7 @@ enum-told c = search needs
 returns : tie.Need-returns
 returns c =
     let k = c .before in
-    sym (record-first _ _ _ (sym (k .check-record .ensures) ∙ refusal-told (k .check-record .result) (not-done _ (c .match .keys2))))
+    step-told (sym (record-first _ _ _ (sym (k .check-record .ensures) ∙ refusal-told (k .check-record .result) (not-done _ (c .match .keys2)))))
 
 byte-at-requires : tie.Need-byte-at-requires
 byte-at-requires c κs =
@@ -45,8 +45,8 @@ returns-2 c =
     let t = b .before in
     let a = t .before .before .before .before .before .args in
     let p = sym (t .before .before .check-record .ensures) ∙ ap asCheck (t .enum-told .given .1) in
-    e .obey-erase .ensures ∙ ap (λ (s : Settings). eraseStep s (a .held) (a .cells .now)) (f .asked-for .ensures)
-    ∙ sym (record-first _ _ _ p ∙ work-one _ _ _ (sym (b .byte-at .ensures .0) ∙ f .before .if1 .taken))
+    step-told (e .obey-erase .ensures ∙ ap (λ (s : Settings). eraseStep s (a .held) (a .cells .now)) (f .asked-for .ensures)
+    ∙ sym (record-first _ _ _ p ∙ work-one _ _ _ (sym (b .byte-at .ensures .0) ∙ f .before .if1 .taken)))
 
 byte-at-requires-2 : tie.Need-byte-at-requires-2
 byte-at-requires-2 c κs =
@@ -68,8 +68,8 @@ returns-3 c =
     let t = b .before in
     let a = t .before .before .before .before .before .args in
     let p = sym (t .before .before .check-record .ensures) ∙ ap asCheck (t .enum-told .given .1) in
-    e .obey-change .ensures ∙ ap (changeStep (a .held) (a .cells .now)) (f .byte-at2 .ensures .0)
-    ∙ sym (record-first _ _ _ p ∙ work-two _ _ _ (sym (b .byte-at .ensures .0) ∙ g .if2 .taken))
+    step-told (e .obey-change .ensures ∙ ap (changeStep (a .held) (a .cells .now)) (f .byte-at2 .ensures .0)
+    ∙ sym (record-first _ _ _ p ∙ work-two _ _ _ (sym (b .byte-at .ensures .0) ∙ g .if2 .taken)))
 
 obey-read-requires : tie.Need-obey-read-requires
 obey-read-requires c κs = search needs
@@ -85,8 +85,8 @@ returns-4 c =
     let a = t .before .before .before .before .before .args in
     let p = sym (t .before .before .check-record .ensures) ∙ ap asCheck (t .enum-told .given .1) in
     let e = b .byte-at .ensures .0 in
-    c .obey-read .ensures
-    ∙ sym (record-first _ _ _ p ∙ work-three _ _ _ _ (record-form _ _ p .least) (λ q. g .before .if1 .left (e ∙ q)) (λ q. g .if2 .left (e ∙ q)))
+    step-told (c .obey-read .ensures
+    ∙ sym (record-first _ _ _ p ∙ work-three _ _ _ _ (record-form _ _ p .least) (λ q. g .before .if1 .left (e ∙ q)) (λ q. g .if2 .left (e ∙ q))))
 
 pub obey-spec : {M : Type 1} → statement M
 obey-spec =

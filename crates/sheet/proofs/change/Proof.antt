@@ -2,6 +2,7 @@
 use mathlib.Core.Path.{refl, _∙_}
 use native.Mathlib.Omega.{arith}
 use borrow.Author.Needs.{needs}
+use Rattle.rules.specs.PromiseLaws.{told}
 use Rattle.laws.specs.Calls.{not-done}
 use Rattle.sheet.specs.CallLaws.{change-bit, change-passed, change-refused, seen-is, seen-later, seen-plain, seen-zero, sized}
 use Rattle.sheet.proofs.change.Statement.{statement}
@@ -20,7 +21,7 @@ same-length : tie.Need-same-length
 same-length c = search needs
 
 returns : tie.Need-returns
-returns c = change-refused _ _ _ _ _ (c .before .look-at .ensures) refl (not-done _ (c .match .keys2))
+returns c = told (change-refused _ _ _ _ _ (c .before .look-at .ensures) refl (not-done _ (c .match .keys2)))
 
 change-plain-requires : tie.Need-change-plain-requires
 change-plain-requires c κs =
@@ -40,7 +41,7 @@ returns-2 : tie.Need-returns-2
 returns-2 c =
     let p = c .before .before in
     let a = p .before .before .before .before .before in
-    p .change-plain .ensures ∙ change-passed _ _ _ _ _ (a .before .before .look-at .ensures) (a .answer .given .1)
+    told (p .change-plain .ensures ∙ change-passed _ _ _ _ _ (a .before .before .look-at .ensures) (a .answer .given .1))
 
 change-stage0-requires : tie.Need-change-stage0-requires
 change-stage0-requires c κs =
@@ -60,7 +61,7 @@ returns-3 : tie.Need-returns-3
 returns-3 c =
     let p = c .before .before in
     let a = p .before .before .before .before .before .before in
-    p .change-stage0 .ensures ∙ change-passed _ _ _ _ _ (a .before .before .look-at .ensures) (a .answer .given .1)
+    told (p .change-stage0 .ensures ∙ change-passed _ _ _ _ _ (a .before .before .look-at .ensures) (a .answer .given .1))
 
 sub-change-stage : tie.Need-sub-change-stage
 sub-change-stage c =
@@ -96,7 +97,7 @@ returns-4 : tie.Need-returns-4
 returns-4 c =
     let p = c .before .before in
     let a = p .before .before .before .before .before .before .before in
-    p .change-stage .ensures ∙ change-passed _ _ _ _ _ (a .before .before .look-at .ensures) (a .answer .given .1)
+    told (p .change-stage .ensures ∙ change-passed _ _ _ _ _ (a .before .before .look-at .ensures) (a .answer .given .1))
 
 pub change-spec : {M : Type 1} → statement M
 change-spec =

@@ -4,9 +4,9 @@ use mathlib.Core.List.{List}
 use Prim.Native.Nat.{ℕ}
 use borrow.Author.Needs.{needs}
 use lib.ListN.{replicate}
-use Rattle.rules.specs.Calls.{asCheck}
+use Rattle.rules.specs.Calls.{asCheck, outcome}
 use Rattle.rules.specs.GuaranteeLaws.{reported-is}
-use Rattle.rules.specs.Promises.{outcome}
+use Rattle.rules.specs.PromiseLaws.{told}
 use Rattle.rules.specs.declared.Answer.the-variants.{Done}
 use Rattle.laws.specs.Calls.{checked-holds, erase-checks, erase-first, not-done, refusal-told}
 use Rattle.sheet.proofs.erase.Statement.{statement}
@@ -25,7 +25,7 @@ returns : tie.Need-returns
 returns c =
     let s = c .before in
     let o = s .before .before .before in
-    sym (erase-first (o .args .settings) (o .args .sheet .now) (sym (s .check-size .ensures) ∙ refusal-told _ (not-done _ (c .match .keys2))))
+    told (sym (erase-first (o .args .settings) (o .args .sheet .now) (sym (s .check-size .ensures) ∙ refusal-told (s .check-size .result) (not-done _ (c .match .keys2)))))
 
 fill-requires : tie.Need-fill-requires
 fill-requires c κs = search needs
@@ -44,8 +44,8 @@ returns-2 c =
     let o = s .before .before .before in
     let p = sym (s .check-size .ensures) ∙ ap asCheck (t .enum-told .given .1) in
     let g = checked-holds (erase-checks (o .args .settings) (o .args .sheet .now)) p in
-    ap₂ (λ (v : ℕ) (ys : List ℕ). outcome (Done v) ys) (c .guarantee .ensures ∙ reported-is _ _ (g .0)) (f .fill .ensures ∙ ap {B = List ℕ} (λ n. replicate n 0) (g .1))
-    ∙ sym (erase-first (o .args .settings) (o .args .sheet .now) p)
+    told (ap₂ (λ (v : ℕ) (ys : List ℕ). outcome (Done v) ys) (c .guarantee .ensures ∙ reported-is _ _ (g .0)) (f .fill .ensures ∙ ap {B = List ℕ} (λ n. replicate n 0) (g .1))
+    ∙ sym (erase-first (o .args .settings) (o .args .sheet .now) p))
 
 pub erase-spec : {M : Type 1} → statement M
 erase-spec =

@@ -3,6 +3,7 @@ use mathlib.Core.Path.{refl}
 use native.Mathlib.Omega.{arith}
 use borrow.Author.Needs.{needs}
 use Rattle.rules.specs.AcceptLaws.{genuine-common}
+use Rattle.rules.specs.PromiseLaws.{told-read}
 use Rattle.laws.specs.Calls.{not-done}
 use Rattle.sheet.specs.CallLaws.{read-made, read-places, read-refused}
 use Rattle.sheet.proofs.read.Statement.{statement}
@@ -18,7 +19,7 @@ enum-told : tie.Need-enum-told
 enum-told c = search needs
 
 returns : tie.Need-returns
-returns c = read-refused _ _ _ _ _ (c .before .look-at .ensures) refl (not-done _ (c .match .keys2))
+returns c = told-read (read-refused _ _ _ _ _ (c .before .look-at .ensures) refl (not-done _ (c .match .keys2)))
 
 write-bits-requires : tie.Need-write-bits-requires
 write-bits-requires c κs =
@@ -34,7 +35,7 @@ returns-2 : tie.Need-returns-2
 returns-2 c =
     let w = c .before .before in
     let t = w .before .before .before in
-    read-made _ _ _ _ _ _ _ (t .before .before .look-at .ensures) (t .enum-told .given .1) (w .write-bits .ensures .0) (w .write-bits .ensures .1)
+    told-read (read-made _ _ _ _ _ _ _ (t .before .before .look-at .ensures) (t .enum-told .given .1) (w .write-bits .ensures .0) (w .write-bits .ensures .1))
 
 pub read-spec : {M : Type 1} → statement M
 read-spec =

@@ -7,6 +7,7 @@ use Rattle.rules.specs.SearchLaws.{pick-yes, pick-no}
 use Rattle.rules.specs.Accept.{Genuine, guarantee}
 use Rattle.rules.specs.AcceptLaws.{accept-genuine}
 use Rattle.rules.specs.Calls.{setupOf, settingsCall}
+use Rattle.rules.specs.PromiseLaws.{told-settings}
 use Rattle.rules.specs.declared.Settings.{Settings}
 use Rattle.rules.specs.declared.Answer.{Answer}
 use Rattle.rules.specs.declared.Answer.the-variants.{Done, BadShape}
@@ -29,7 +30,7 @@ returns : tie.Need-returns
 unfolding settingsCall
 returns c =
     let b = c .before .before in
-    refusing (b .work-out .result) (omega arith) ∙ ap setupOf (b .work-out .ensures)
+    told-settings (refusing (b .work-out .result) (omega arith) ∙ ap setupOf (b .work-out .ensures))
 
 formula-requires : tie.Need-formula-requires
 formula-requires c κs =
@@ -42,7 +43,7 @@ returns-2 : tie.Need-returns-2
 unfolding settingsCall
 returns-2 c =
     let b = c .before .before .before in
-    ap (λ (v : ℕ). record { answer = Done v; settings = b .work-out .result }) (c .formula .ensures) ∙ accepting (b .work-out .result) (omega arith) ∙ ap setupOf (b .work-out .ensures)
+    told-settings (ap (λ (v : ℕ). record { answer = Done v; settings = b .work-out .result }) (c .formula .ensures) ∙ accepting (b .work-out .result) (omega arith) ∙ ap setupOf (b .work-out .ensures))
 
 pub accept-spec : {M : Type 1} → statement M
 accept-spec = tie.close (tie.spec work-out-requires returns formula-requires returns-2)

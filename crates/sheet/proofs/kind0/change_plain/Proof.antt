@@ -2,7 +2,7 @@
 use mathlib.Core.Path.{sym, ap, _∙_}
 use native.Mathlib.Omega.{arith}
 use borrow.Author.Needs.{needs}
-use Rattle.rules.specs.Promises.{outcome}
+use Rattle.rules.specs.Calls.{outcome}
 use Rattle.rules.specs.declared.Answer.the-variants.{Done}
 use Rattle.sheet.specs.Laws.{Stepped, plain-erase, plain-step}
 use Rattle.sheet.proofs.kind0.change_plain.Statement.{statement}

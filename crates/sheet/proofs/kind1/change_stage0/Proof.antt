@@ -2,8 +2,7 @@
 use mathlib.Core.Path.{refl, sym, ap, _∙_}
 use native.Mathlib.Omega.{arith}
 use Rattle.rules.specs.AcceptLaws.{staged-bits}
-use Rattle.rules.specs.Calls.{asCheck}
-use Rattle.rules.specs.Promises.{outcome}
+use Rattle.rules.specs.Calls.{asCheck, outcome}
 use Rattle.rules.specs.declared.Answer.the-variants.{Done}
 use Rattle.sheet.specs.Laws.{Stepped}
 use Rattle.sheet.specs.ZeroChange.{zero-step, zero-stuck}

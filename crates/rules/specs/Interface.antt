@@ -1,14 +1,14 @@
--- The settings record that seven numbers stand for. Assumes nothing.
+-- What the C functions take and write: a settings record crosses as seven numbers that the caller owns. Assumes nothing.
 use mathlib.Core.List.{List, [], _∷_}
 use Prim.Native.Nat.{ℕ}
 use native.Mathlib.Decide.{ℕ-discrete}
 use lib.ListN.{length, getD}
 use Rattle.rules.specs.Search.{pick}
 use Rattle.rules.specs.Accept.{refused}
 use Rattle.rules.specs.declared.Settings.{Settings}
 use Rattle.rules.specs.declared.Setup.{Setup}
 use Rattle.rules.specs.declared.Answer.{Answer}
 use Rattle.rules.specs.declared.Answer.the-variants.{BadShape}
 
 -- kind, k, top, n, m, s, w; any other count of numbers stands for the record of zeros
 abbrev pub recordOf : List ℕ → Settings
@@ -19,10 +19,10 @@ recordOf xs = pick (ℕ-discrete (length xs) 7)
 abbrev pub numbersOf : Settings → List ℕ
 numbersOf r = r .kind ∷ r .k ∷ r .top ∷ r .n ∷ r .m ∷ r .s ∷ r .w ∷ []
 
--- what settings write into the caller's numbers: the record, where there are seven of them
+-- what settings write into the caller's numbers: the record where there are seven of them, else nothing
 abbrev pub recordInto : List ℕ → Setup → List ℕ
 recordInto xs x = pick (ℕ-discrete (length xs) 7) (numbersOf (x .settings)) xs
 
--- and what they answer: BadShape where there are not
+-- what settings answer: BadShape where there are not seven numbers
 abbrev pub answerInto : List ℕ → Setup → Answer
 answerInto xs x = pick (ℕ-discrete (length xs) 7) (x .answer) BadShape
