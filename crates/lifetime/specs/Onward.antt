@@ -15,7 +15,7 @@ use Rattle.rules.specs.Staged.{Sheet, stage0, staged, parityLength, parityCount
 use Rattle.rules.specs.Staged as S
 use Rattle.rules.specs.Batches.{decode}
 use Rattle.rules.specs.Accept.{acceptStaged, stagesOf, indexWidth, accept, Genuine}
-use Rattle.rules.specs.AcceptLaws.{StagedFacts, staged-bits, accept-genuine}
+use Rattle.rules.specs.AcceptLaws.{StagedFacts, genuine-staged, staged-bits, accept-genuine}
 use Rattle.rules.specs.Calls.{changeSheet, settingsCall, Outcome, changeCall}
 use Rattle.rules.specs.Numbers.{marked}
 use Rattle.rules.specs.declared.Settings.{Settings}
@@ -195,8 +195,9 @@ module _ (r : Settings) (f : StagedFacts r) (z : StageZeroEnd r) where
           (subst (NoPlace (r .s) (r .m) (r .top) i) cells-mean n))
 
 -- whatever the accepted staged settings, there is such a sheet
-pub stage-one : (r : Settings) → StagedFacts r → Genuine r → StageOne r
-stage-one r f g =
+pub stage-one : (r : Settings) → Genuine r → ¬ (r .kind ≡ 0) → StageOne r
+stage-one r g h =
+    let f : StagedFacts r = genuine-staged r g h in
     let z : StageZeroEnd r = stage-zero-ends r f g in
     record {
       sheet = cells r f z;
@@ -228,8 +229,8 @@ pub record GoesFurther (e : EraseProgram) (p : ChangeProgram) (r : Settings) (z 
   pub done : (i : ℕ) → i < r .k → p r (z .sheet) i .number ≡ 0
 
 -- whatever the accepted staged settings, k = 4 with L = 1 too, a program that keeps the promises gets to that sheet and answers Done there to a change of every bit
-pub not-stopping-later : (e : EraseProgram) (p : ChangeProgram) → KeepsErase e → KeepsChange p → (r : Settings) → StagedFacts r → (z : StageOne r) → GoesFurther e p r z
-not-stopping-later e p ke kp r f z =
+pub not-stopping-later : (e : EraseProgram) (p : ChangeProgram) → KeepsErase e → KeepsChange p → (r : Settings) (z : StageOne r) → GoesFurther e p r z
+not-stopping-later e p ke kp r z =
     let a : Accepted r (z .sheet) = run-accepted r (z .run) in
     record {
       run = own-run e p ke kp r (genuine-words r (a .genuine)) (z .run);

@@ -12,7 +12,7 @@ use Rattle.rules.specs.Cells.{sum, block, chop}
 use Rattle.rules.specs.Staged.{Sheet, stage0, staged, indexBlocks}
 use Rattle.rules.specs.Batches.{batchCells, entryOf, batch, sheetAt, decode}
 use Rattle.rules.specs.Accept.{Genuine, batchStart}
-use Rattle.rules.specs.AcceptLaws.{StagedFacts, genuine-stages}
+use Rattle.rules.specs.AcceptLaws.{StagedFacts, genuine-staged, genuine-stages}
 use Rattle.rules.specs.GuaranteeLaws.{batch-start-is}
 use Rattle.rules.specs.declared.Settings.{Settings}
 
@@ -65,11 +65,15 @@ module _ (r : Settings) (g : Genuine r) (p : StagedFacts r) (f : List ℕ) where
       ∙ ap₂ (λ (xs ys : List ℕ). staged d xs (map (entryOf (r .top) (r .w)) (chop (r .w) (indexBlocks (r .s)) ys))) (sym blocks-same) (sym q) in
       subst (StageIs r f) is (at-batch b low high (subst (λ (xs : List ℕ). 0 < sum xs) q h) (λ c lc hc. none-above c (omega arith) hc (n (r .s - 1 - c) (omega arith))))
 
-  -- what the cells of accepted staged settings mean is the sheet of the stage that 01 names
-  pub stage-highest : StageIs r f (decode (r .s) (r .m) (r .top) (r .w) f)
+  -- what the cells mean is the sheet of the stage that 01 names
+  highest : StageIs r f (decode (r .s) (r .m) (r .top) (r .w) f)
   unfolding decode
-  stage-highest = go (first-is (λ d. decLt 0 (sum (batchLeft d))) (r .s - 1))
+  highest = go (first-is (λ d. decLt 0 (sum (batchLeft d))) (r .s - 1))
     where
       go : {o : Found} → First (λ d. 0 < sum (batchLeft d)) (r .s - 1) o → StageIs r f (sheetAt (r .s) (r .m) (r .top) (r .w) f o)
       go (hit d l h n) = found-at d l h n
       go (miss n) = subst (λ (xs : List ℕ). StageIs r f (stage0 xs)) (sym blocks-same) (at-0 (λ c l h. none-above c l h (n (r .s - 1 - c) (omega arith))))
+
+-- what the cells of accepted settings that aren't plain mean is the sheet of the stage that 01 names
+pub stage-highest : (r : Settings) → Genuine r → ¬ (r .kind ≡ 0) → (f : List ℕ) → StageIs r f (decode (r .s) (r .m) (r .top) (r .w) f)
+stage-highest r g h f = highest r g (genuine-staged r g h) f
