@@ -1,5 +1,6 @@
 # shellcheck shell=bash
 # Sourced from the repository's root: the kit's tools, the archive and the program, and both again for this machine.
+command -v rt >/dev/null || { echo "rt, the command of the Rattle kit, is not on the path" >&2 && exit 1; }
 kit=$(dirname "$(dirname "$(readlink -f "$(command -v rt)")")")
 machine=$(uname -m)
 own=$kit/on/$machine
@@ -24,9 +25,11 @@ quietly() {
     return "$status"
 }
 
-# archive: prove the C interface and write target/staticlib/libcapi.a, where that is not done
+# archive: prove the C interface, write target/staticlib/libharpginger.a, for x86-64, and keep the proved module that it is compiled from, where that is not done
 archive() {
-    fresh target/staticlib/libcapi.a || quietly rt staticlib capi
+    fresh target/staticlib/libharpginger.a && fresh target/staticlib/harpginger.bc && return
+    mkdir -p target/staticlib
+    keeping target/staticlib/harpginger.bc rt staticlib harpginger
 }
 
 # program: prove the drive program and write target/bin/drive, where that is not done
@@ -46,7 +49,7 @@ link_c() {
     name=$(basename "$file" .c)
     mkdir -p target/obj target/bin
     "$tools/bin/clang" --target=$target -O2 "$@" -c "$file" -o "target/obj/$name.o" &&
-        "$own/bin/rattle-link" --target $target --toolchain "$tools" -o "target/bin/$name" "target/obj/$name.o" target/staticlib/libcapi.a
+        "$own/bin/rattle-link" --target $target --toolchain "$tools" -o "target/bin/$name" "target/obj/$name.o" target/staticlib/libharpginger.a
 }
 
 # keeping FILE COMMAND..: rt over a view of the kit whose clang also leaves the module that it compiles in FILE
@@ -79,25 +82,52 @@ END
     return "$status"
 }
 
-# for_machine MODULE OBJECT: the proved module through the kit's own clang, for this machine instead of x86-64
-for_machine() {
-    "$tools/bin/clang" --target=$target -x ir "$1" -S -emit-llvm -O0 -Xclang -disable-llvm-passes -o "$1.ll" &&
-        sed -i -e '/^target /d' -e 's/ "target-cpu"="[^"]*"//' "$1.ll" &&
-        "$tools/bin/clang" --target="$machine-unknown-linux-gnu" --no-default-config -Wno-override-module -ffunction-sections -fdata-sections -O3 -fPIC -c -x ir "$1.ll" -o "$2"
+# text MODULE FILE: the proved module as text, for a target that is still to be named
+text() {
+    "$tools/bin/clang" --target=$target -Wno-override-module -x ir "$1" -S -emit-llvm -O0 -Xclang -disable-llvm-passes -o "$2" &&
+        sed -i -e '/^target /d' -e 's/ "target-cpu"="[^"]*"//' "$2"
 }
 
-# native_archive: target/native/libcapi.a, which this machine's own tools can link: on x86-64 it is the archive itself
-native_archive() {
-    fresh target/native/libcapi.a && return
-    mkdir -p target/native
-    rm -f target/native/libcapi.a
-    if [ "$machine" = x86_64 ]; then
-        archive && cp target/staticlib/libcapi.a target/native/
+# usual TARGET: clang's name of it and the options that its code is compiled with; Rust writes a riscv32's extensions into the name
+usual() {
+    case $1 in
+        *-linux-*) echo "--target=$1 -O3 -fPIC" ;;
+        riscv32-*) echo "--target=$1 -Os -march=rv32imac -mabi=ilp32" ;;
+        riscv32*-*) echo "--target=riscv32-${1#*-} -Os -march=${1%%-*} -mabi=ilp32" | sed 's/-march=riscv/-march=rv/' ;;
+        *) echo "--target=$1 -Os" ;;
+    esac
+}
+
+# compiled MODULE OBJECT TARGET OPTIONS..: the proved module through the kit's own clang for any target that it has
+# Where the target's C aligns 64-bit numbers to 4 bytes only, so may the code: it is then told to expect no more.
+compiled() {
+    local module=$1 object=$2 triple=$3
+    shift 3
+    text "$module" "$object.ll" || return 1
+    case $triple in i[3-6]86-*) sed -i 's/, align 8/, align 4/' "$object.ll" ;; esac
+    # shellcheck disable=SC2046
+    "$tools/bin/clang" $(usual "$triple") --no-default-config -Wno-override-module -ffunction-sections -fdata-sections "$@" -c -x ir "$object.ll" -o "$object"
+}
+
+# archive_for TARGET FOLDER OPTIONS..: FOLDER/libharpginger.a from the proved module; for x86-64 without options it is the archive itself
+archive_for() {
+    local triple=$1 folder=$2
+    shift 2
+    archive && mkdir -p "$folder" && rm -f "$folder/libharpginger.a" || return 1
+    if [ "$triple" = $target ] && [ $# -eq 0 ]; then
+        cp target/staticlib/libharpginger.a "$folder/"
         return
     fi
-    keeping target/native/capi.bc rt staticlib capi &&
-        for_machine target/native/capi.bc target/native/capi.o &&
-        "$tools/bin/llvm-ar" rcs target/native/libcapi.a target/native/capi.o
+    compiled target/staticlib/harpginger.bc "$folder/harpginger.o" "$triple" "$@" &&
+        "$tools/bin/llvm-ar" rcs "$folder/libharpginger.a" "$folder/harpginger.o" && return
+    rm -f "$folder"/harpginger.o*
+    rmdir "$folder" 2>/dev/null
+    return 1
+}
+
+# native_archive: target/native/libharpginger.a, which this machine's own tools can link
+native_archive() {
+    fresh target/native/libharpginger.a || archive_for "$machine-unknown-linux-gnu" target/native
 }
 
 # native_program: target/native/drive, which this machine runs with no emulator
@@ -110,7 +140,7 @@ native_program() {
     fi
     rm -f target/stamp/drive
     keeping target/native/drive.bc rt check drive &&
-        for_machine target/native/drive.bc target/native/drive.o &&
+        compiled target/native/drive.bc target/native/drive.o "$machine-unknown-linux-gnu" &&
         gcc -o target/native/drive target/native/drive.o
 }
 
@@ -119,4 +149,9 @@ native_compare() {
     local folder=$PWD/target/native
     native_archive && native_program &&
         (cd second && HARPGINGER_ARCHIVE=$folder CARGO_TARGET_DIR=$folder/cargo cargo build --offline --release --quiet)
+}
+
+# needs ARCHIVE: what it asks of a C library and of the compiler's own, each once
+needs() {
+    readelf -sW "$1" | awk '$7 == "UND" && $8 != "" { print $8 }' | sort -u
 }

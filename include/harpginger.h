@@ -1,14 +1,21 @@
 /* Harpginger: k bits on a sheet of flash cells whose levels only rise, so that erasing is put off
-   for as long as the guarantee says. Link with target/native/libcapi.a, which checks/native writes
-   for this machine, or with target/staticlib/libcapi.a, which is for x86-64.
+   for as long as the guarantee says. Link with libharpginger.a: checks/native writes it for this
+   machine to target/native, and for another target to target/native/TARGET.
 
-   Every call takes any numbers, any lengths and any levels, and always ends with one of the nine
-   answers below, as its number. The answer's value goes to the place `value`, which every call
-   writes. The library keeps nothing between calls: all memory is the caller's.
+   Each of the four calls takes any numbers, any lengths and any levels, and always ends with one of
+   the answers below, as its number. The answer's value goes to the place `value`, which each of
+   them writes. A number is of 64 bits on every machine, one of 32 bits too. C99 or C++11.
 
    What the caller owes, and the library cannot check:
    - a pointer lends as many places as the length after it says, and is not null, for a length of 0 too;
-   - nothing lent to one call for writing overlaps anything else that is lent to it.
+   - `value` lends one place and is not null;
+   - `numbers` and `value` are aligned as the compiler aligns an uint64_t; cells and outputs are
+     bytes, and may stand anywhere;
+   - nothing lent to one call for writing overlaps anything else that is lent to it;
+   - while a call runs, no other thread, interrupt or device writes what is lent to it, and none
+     reads what is lent to it for writing.
+   The library keeps nothing between calls, and all memory is the caller's. So calls on different
+   sheets are independent, and may run at once in as many threads as there are.
 
    A refusal writes the value place and nothing else: no cell of a sheet, no place of an output.
    The one exception is refused settings, which also write the record of zeros where seven places
@@ -16,17 +23,45 @@
 #ifndef HARPGINGER_H
 #define HARPGINGER_H
 
-#include <stddef.h>
 #include <stdint.h>
 
 #ifdef __cplusplus
 extern "C" {
 #endif
 
-/* How many numbers a settings record has: kind, k, L, n, then m, s and w as worked out.
+/* Where the compiler has them: whoever passes a null pointer, drops an answer or lends fewer places
+   than the length says is warned. A pointer and its length are named by their places in the call. */
+#if defined(__GNUC__)
+#define HARPGINGER_ANSWERS __attribute__((nonnull, warn_unused_result))
+#else
+#define HARPGINGER_ANSWERS
+#endif
+#if defined(__has_attribute)
+#if __has_attribute(access)
+#define HARPGINGER_LENDS(...) __attribute__((access(__VA_ARGS__)))
+#endif
+#endif
+#ifndef HARPGINGER_LENDS
+#define HARPGINGER_LENDS(...)
+#endif
+
+/* The version of this interface. It is one more whenever a function, an answer or a place of the
+   record is added or means something else. */
+#define HARPGINGER_VERSION 2
+
+/* How many numbers a settings record has, and which stands where.
    Only harpginger_settings makes a record. Any other call answers BadShape to a record of another
    count of numbers, to the record of zeros, and to any seven numbers that acceptance never gives. */
 #define HARPGINGER_RECORD 7
+enum harpginger_place {
+    HARPGINGER_KIND = 0,   /* plain or staged */
+    HARPGINGER_BITS = 1,   /* k: how many bits a sheet keeps, and how many cells a block has */
+    HARPGINGER_TOP = 2,    /* L: the top level of a cell */
+    HARPGINGER_CELLS = 3,  /* n: how many cells a sheet has */
+    HARPGINGER_BLOCKS = 4, /* m: how many blocks; they stand first, and after them the index cells */
+    HARPGINGER_STAGES = 5, /* s: how many stages, stage 0 included; 0 for plain */
+    HARPGINGER_WIDTH = 6   /* w: how many cells an index block has; 0 for plain */
+};
 
 /* The limits of settings. Room: m blocks of k cells, m at least k, beside the index cells of a
    staged sheet. A plain sheet also needs k * L to be even; a staged one, k of 4, 8, 16, 32 or 64. */
@@ -50,6 +85,26 @@ enum harpginger_answer {
     HARPGINGER_BAD_RECORD = 8    /* the drive program only: no call here answers it */
 };
 
+/* An answer in words. */
+static inline const char *harpginger_text(uint64_t answer) {
+    switch (answer) {
+    case HARPGINGER_DONE: return "done";
+    case HARPGINGER_BAD_SHAPE: return "a setting is outside the limits, or the record is not genuine";
+    case HARPGINGER_BAD_LENGTH: return "the sheet has another length than its settings";
+    case HARPGINGER_SHORT_OUTPUT: return "the output has fewer places than there are bits";
+    case HARPGINGER_BAD_BIT: return "there is no bit of this number";
+    case HARPGINGER_BAD_LEVEL: return "a cell is above the top level";
+    case HARPGINGER_BAD_SHEET: return "the sheet breaks the rules of its kind";
+    case HARPGINGER_ERASE: return "no place for this bit before the sheet is erased";
+    case HARPGINGER_BAD_RECORD: return "a bad record";
+    default: return "no answer of this version";
+    }
+}
+
+/* The version of the archive that is linked: HARPGINGER_VERSION, where header and archive belong
+   together. A program compares the two once, before any other call. */
+uint64_t harpginger_version(void);
+
 /* Accepts settings: kind (plain or staged), k bits (2 to 64), top level L of a cell (1 to 255) and
    n cells (at most 16,384).
    Answers Done or BadShape.
@@ -57,34 +112,41 @@ enum harpginger_answer {
    erased sheet of these settings accepts before the first Erase.
    BadShape writes the value place and the record of zeros; or, where `numbers_length` is not
    HARPGINGER_RECORD, the value place only. */
-size_t harpginger_settings(size_t kind, size_t k, size_t top, size_t n,
-                           size_t *numbers, size_t numbers_length,
-                           size_t *value);
+HARPGINGER_ANSWERS HARPGINGER_LENDS(write_only, 5, 6) HARPGINGER_LENDS(write_only, 7)
+uint64_t harpginger_settings(uint64_t kind, uint64_t k, uint64_t top, uint64_t n,
+                             uint64_t *numbers, uint64_t numbers_length,
+                             uint64_t *value);
 
 /* Erases a sheet: Done sets all n cells to 0, whatever they were; its value is the guarantee.
    Answers Done, BadShape or BadLength. A refusal writes the value place only. */
-size_t harpginger_erase(const size_t *numbers, size_t numbers_length,
-                        uint8_t *sheet, size_t sheet_length,
-                        size_t *value);
+HARPGINGER_ANSWERS HARPGINGER_LENDS(read_only, 1, 2) HARPGINGER_LENDS(write_only, 3, 4)
+HARPGINGER_LENDS(write_only, 5)
+uint64_t harpginger_erase(const uint64_t *numbers, uint64_t numbers_length,
+                          uint8_t *sheet, uint64_t sheet_length,
+                          uint64_t *value);
 
 /* Reads the bits: Done writes k places of `out`, each 0 or 1, bit 0 first, and none after them;
    its value is how many bits are 1. The sheet is only read.
    Answers Done, BadShape, BadLength, ShortOutput, BadLevel or BadSheet. A refusal writes the value
    place only. */
-size_t harpginger_read(const size_t *numbers, size_t numbers_length,
-                       const uint8_t *sheet, size_t sheet_length,
-                       uint8_t *out, size_t out_length,
-                       size_t *value);
+HARPGINGER_ANSWERS HARPGINGER_LENDS(read_only, 1, 2) HARPGINGER_LENDS(read_only, 3, 4)
+HARPGINGER_LENDS(write_only, 5, 6) HARPGINGER_LENDS(write_only, 7)
+uint64_t harpginger_read(const uint64_t *numbers, uint64_t numbers_length,
+                         const uint8_t *sheet, uint64_t sheet_length,
+                         uint8_t *out, uint64_t out_length,
+                         uint64_t *value);
 
 /* Changes one bit: Done flips bit `bit` and no other, and lowers no cell; its value is how many
    levels were raised, over all cells.
    Answers Done, BadShape, BadLength, BadBit, BadLevel, BadSheet or Erase. A refusal, Erase too,
    writes the value place only: the sheet keeps its bits, and after Erase another bit may still
    find a place. */
-size_t harpginger_change(const size_t *numbers, size_t numbers_length,
-                         uint8_t *sheet, size_t sheet_length,
-                         size_t bit,
-                         size_t *value);
+HARPGINGER_ANSWERS HARPGINGER_LENDS(read_only, 1, 2) HARPGINGER_LENDS(read_write, 3, 4)
+HARPGINGER_LENDS(write_only, 6)
+uint64_t harpginger_change(const uint64_t *numbers, uint64_t numbers_length,
+                           uint8_t *sheet, uint64_t sheet_length,
+                           uint64_t bit,
+                           uint64_t *value);
 
 #ifdef __cplusplus
 }

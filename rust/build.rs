@@ -1,52 +1,96 @@
-//! Links the compiled library, libcapi.a. HARPGINGER_ARCHIVE names the folder that holds it, from
-//! this package's folder or absolute. Without it that is ../target/native, the build for this
-//! machine, where the archive is there; else ../target/staticlib, for x86-64 alone.
+//! Links the compiled library, libharpginger.a. HARPGINGER_ARCHIVE names the folder that holds it:
+//! absolute, or from where cargo was started, or from this package's folder. Without it that is
+//! where `checks/native` writes the archive for this machine, or for the target of this build;
+//! else, for x86-64 alone, where `rt staticlib harpginger` writes it.
 //!
-//! Where there is none to link a warning says why; `cargo check` works there all the same, and
-//! whatever has to be linked stops at the missing library.
+//! Where there is none a warning says where it was looked for and what to type; `cargo check` works
+//! there all the same, and whatever has to be linked stops at the missing library.
 
-use std::path::PathBuf;
-use std::{env, fs};
+use std::env;
+use std::path::{Path, PathBuf};
 
 fn main() {
     println!("cargo::rerun-if-changed=build.rs");
     println!("cargo::rerun-if-env-changed=HARPGINGER_ARCHIVE");
     // Named in every case: without a folder to find it in, linking is refused by name.
-    println!("cargo::rustc-link-lib=static=capi");
-    match folder() {
-        Ok(folder) => println!("cargo::rustc-link-search=native={}", folder.display()),
-        Err(why) => {
-            println!("cargo::warning={why}: `cargo check` works, but nothing can be linked")
+    println!("cargo::rustc-link-lib=static=harpginger");
+    // The folder itself, whatever link leads to it, so that the repository is around it.
+    let package = env::current_dir().expect("Cargo runs this in the package's folder");
+    let repository = package.parent().unwrap_or(&package);
+    let named = env::var_os("HARPGINGER_ARCHIVE");
+    let folders = match &named {
+        Some(named) => folders_named(&package, Path::new(named)),
+        None => folders_written(repository),
+    };
+    match folders.iter().find(|folder| archive(folder).is_file()) {
+        Some(folder) => {
+            watch(folder);
+            println!("cargo::rustc-link-search=native={}", folder.display());
+        }
+        None => {
+            folders.iter().for_each(|folder| watch(folder));
+            warn(&folders, repository, named.is_some());
         }
     }
 }
 
-/// The folder of an archive that this build can link, or why there is none.
-fn folder() -> Result<PathBuf, String> {
-    if let Some(named) = env::var_os("HARPGINGER_ARCHIVE") {
-        return archive_in(PathBuf::from(named));
+/// The folders that a name stands for: one from where cargo was started comes first.
+fn folders_named(package: &Path, named: &Path) -> Vec<PathBuf> {
+    let mut folders = Vec::new();
+    if named.is_relative() {
+        println!("cargo::rerun-if-env-changed=PWD");
+        folders.extend(env::var_os("PWD").map(|started| Path::new(&started).join(named)));
     }
-    let native = match env::var("HOST") == env::var("TARGET") {
-        true => archive_in(PathBuf::from("../target/native")),
-        false => Err(String::from(
-            "this build is not for this machine, and HARPGINGER_ARCHIVE names no archive",
-        )),
+    folders.push(package.join(named));
+    folders.dedup();
+    folders
+}
+
+/// The folders that the repository's own commands write an archive of this build's target to.
+fn folders_written(repository: &Path) -> Vec<PathBuf> {
+    let native = repository.join("target/native");
+    let mut folders = vec![native.join(variable("TARGET"))];
+    if for_this_machine() {
+        folders.insert(0, native);
+    }
+    if variable("CARGO_CFG_TARGET_ARCH") == "x86_64" {
+        folders.push(repository.join("target/staticlib"));
+    }
+    folders
+}
+
+/// Says each place that was looked in, and what to type.
+fn warn(folders: &[PathBuf], repository: &Path, named: bool) {
+    println!("cargo::warning=no archive to link, so that only `cargo check` works; there is no");
+    for folder in folders {
+        println!("cargo::warning=    {}", archive(folder).display());
+    }
+    let target = match for_this_machine() {
+        true => String::new(),
+        false => format!(" {}", variable("TARGET")),
     };
-    match env::var("CARGO_CFG_TARGET_ARCH").as_deref() {
-        Ok("x86_64") => native.or_else(|_| archive_in(PathBuf::from("../target/staticlib"))),
-        _ => native,
+    let write = format!("type `checks/native{target}` in {}", repository.display());
+    let name = "set HARPGINGER_ARCHIVE to the folder that holds it";
+    match named {
+        true => println!("cargo::warning={name}, or unset it and {write}"),
+        false => println!("cargo::warning={write}, or {name}"),
     }
 }
 
-/// The folder, if it holds an archive. Whether its processor is the build's, the linker sees.
-fn archive_in(folder: PathBuf) -> Result<PathBuf, String> {
-    let archive = folder.join("libcapi.a");
-    println!("cargo::rerun-if-changed={}", archive.display());
-    if !archive.is_file() {
-        return Err(format!(
-            "{} is not there (`checks/native` writes the archive for this machine)",
-            archive.display()
-        ));
-    }
-    fs::canonicalize(&folder).map_err(|error| format!("{}: {error}", folder.display()))
+fn for_this_machine() -> bool {
+    variable("HOST") == variable("TARGET")
+}
+
+/// A variable that Cargo sets for every build script.
+fn variable(name: &str) -> String {
+    env::var(name).unwrap_or_else(|error| panic!("Cargo sets {name}: {error}"))
+}
+
+fn archive(folder: &Path) -> PathBuf {
+    folder.join("libharpginger.a")
+}
+
+/// Has Cargo run this again when the archive changes; one that is not there counts as changed.
+fn watch(folder: &Path) {
+    println!("cargo::rerun-if-changed={}", archive(folder).display());
 }

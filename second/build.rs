@@ -1,5 +1,5 @@
 //! Says where the compiled library's archive is. HARPGINGER_ARCHIVE names the folder that holds
-//! libcapi.a, from this package's folder or absolute; without it the comparison is built without
+//! libharpginger.a, from this package's folder or absolute; without it the comparison is built without
 //! the compiled library.
 
 use std::{env, fs};
@@ -15,7 +15,7 @@ fn main() {
         panic!("HARPGINGER_ARCHIVE names no folder: {folder}");
     };
     let folder = folder.display();
-    println!("cargo::rerun-if-changed={folder}/libcapi.a");
+    println!("cargo::rerun-if-changed={folder}/libharpginger.a");
     println!("cargo::rustc-link-search=native={folder}");
     println!("cargo::rustc-cfg=harpginger_archive");
 }

@@ -1,5 +1,5 @@
 /* Serves the compiled library to a comparison that cannot link it: on a machine whose processor
-   is not the archive's. Linked with libcapi.a; reads calls on standard input and writes what each
+   is not the archive's. Linked with libharpginger.a; reads calls on standard input and writes what each
    left behind on standard output, until the input ends. It needs no header, and of the C library
    read, write, memcpy and memcmp alone. All numbers are of 64 bits, low byte first.
 
@@ -8,7 +8,8 @@
    What it left: answer, value, 1 if all else is as it was; then record, sheet and output.
    "All else" is a guard on both sides of each slice, and what is lent for reading only. */
 
-typedef unsigned long size;
+typedef unsigned long long number;
+typedef __SIZE_TYPE__ size;
 typedef unsigned char byte;
 
 long read(int, void *, size);
@@ -16,17 +17,17 @@ long write(int, const void *, size);
 void *memcpy(void *, const void *, size);
 int memcmp(const void *, const void *, size);
 
-size harpginger_settings(size, size, size, size, size *, size, size *);
-size harpginger_erase(const size *, size, byte *, size, size *);
-size harpginger_read(const size *, size, const byte *, size, byte *, size, size *);
-size harpginger_change(const size *, size, byte *, size, size, size *);
+number harpginger_settings(number, number, number, number, number *, number, number *);
+number harpginger_erase(const number *, number, byte *, number, number *);
+number harpginger_read(const number *, number, const byte *, number, byte *, number, number *);
+number harpginger_change(const number *, number, byte *, number, number, number *);
 
 enum { GUARD = 72, RECORD = 64 * 8, SHEET = 1 << 16, OUTPUT = 1 << 12, MARK = 0xa5 };
 
 /* A lent slice between guards. The bytes start at an odd place. */
 struct lent { byte *area; size most, first, length; };
 
-static size record_area[(RECORD + 2 * GUARD) / 8];
+static number record_area[(RECORD + 2 * GUARD) / 8];
 static byte sheet_area[SHEET + 2 * GUARD], output_area[OUTPUT + 2 * GUARD];
 static byte kept[RECORD + SHEET], message[RECORD + SHEET + OUTPUT + 24];
 
@@ -59,16 +60,16 @@ static int give(const byte *from, size count) {
 }
 
 /* Takes a slice of this length and sets guards around it. */
-static int lend(struct lent *lent, size length) {
+static int lend(struct lent *lent, number length) {
     volatile byte *area = lent->area;
     size i;
     if (length > lent->most) return 0;
-    lent->length = length;
+    lent->length = (size)length;
     for (i = 0; i < GUARD; i++) {
         if (i < lent->first) area[i] = MARK;
-        area[lent->first + length + i] = MARK;
+        area[lent->first + lent->length + i] = MARK;
     }
-    return take(lent->area + lent->first, length);
+    return take(lent->area + lent->first, lent->length);
 }
 
 static int guarded(const struct lent *lent) {
@@ -81,8 +82,8 @@ static int guarded(const struct lent *lent) {
     return 1;
 }
 
-static size call(const size *asked, size *value) {
-    size *record = record_area + GUARD / 8;
+static number call(const number *asked, number *value) {
+    number *record = record_area + GUARD / 8;
     byte *sheet = lents[1].area + lents[1].first, *output = lents[2].area + lents[2].first;
     switch (asked[0]) {
     case 0: return harpginger_settings(asked[5], asked[6], asked[7], asked[8], record, asked[1], value);
@@ -93,9 +94,10 @@ static size call(const size *asked, size *value) {
 }
 
 int main(void) {
-    size asked[9];
+    number asked[9];
     while (take((byte *)asked, sizeof asked)) {
-        size left[3] = {0, 0xdeadbeefdeadbeef, 1}, end = sizeof left, read_only[2], i;
+        number left[3] = {0, 0xdeadbeefdeadbeef, 1};
+        size end = sizeof left, read_only[2], i;
         if (!lend(&lents[0], 8 * asked[1]) || !lend(&lents[1], asked[2]) || !lend(&lents[2], asked[3])) return 1;
         read_only[0] = asked[0] == 0 ? 0 : lents[0].length;
         read_only[1] = asked[0] == 2 ? lents[1].length : 0;

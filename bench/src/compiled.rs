@@ -1,25 +1,24 @@
 //! The compiled library, through its Rust crate, with settings that it has accepted.
 
-use harpginger::{Answer, Kind, Sheet};
+use harpginger::{Error, Kind, Sheet, View};
 use second::Settings;
 
 /// An answer's number and its value.
 #[derive(Clone, Copy, Debug, PartialEq, Eq)]
 pub struct Reply {
     /// 0 for Done, up to 8.
-    pub answer: usize,
+    pub answer: u64,
     /// The value returned.
-    pub value: usize,
+    pub value: u64,
 }
 
-impl From<Result<usize, Answer>> for Reply {
-    fn from(given: Result<usize, Answer>) -> Reply {
+impl From<Result<u64, Error>> for Reply {
+    fn from(given: Result<u64, Error>) -> Reply {
         let (answer, value) = match given {
-            Ok(value) => (Answer::Done, value),
-            Err(Answer::BadLevel(cell)) => (Answer::BadLevel(cell), cell),
-            Err(answer) => (answer, 0),
+            Ok(value) => (0, value),
+            Err(Error::BadLevel(cell)) => (Error::BadLevel(cell).number(), cell as u64),
+            Err(refusal) => (refusal.number(), 0),
         };
-        let answer = answer.number();
         Reply { answer, value }
     }
 }
@@ -47,7 +46,7 @@ impl Compiled {
     }
 
     /// How many changes of an erased sheet the library guarantees.
-    pub fn guarantee(&self) -> usize {
+    pub fn guarantee(&self) -> u64 {
         self.settings.guarantee()
     }
 
@@ -57,8 +56,9 @@ impl Compiled {
     }
 
     /// Reads a sheet's bits.
-    pub fn read(&self, sheet: &mut [u8], output: &mut [u8]) -> Reply {
-        Sheet::over(self.settings, sheet).read_into(output).into()
+    pub fn read(&self, sheet: &[u8], output: &mut [u8]) -> Reply {
+        let ones = View::over(self.settings, sheet).read_into(output);
+        ones.map(|ones| ones as u64).into()
     }
 
     /// Changes one bit.

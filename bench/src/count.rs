@@ -1,34 +1,28 @@
 //! Instructions of a call, counted by valgrind's callgrind, whatever else the machine does.
 
+use crate::files::Line;
 use crate::job::By;
-use crate::rows::{rows, table, Row, CALLS};
+use crate::rows::{lines, rows, Row, CALLS};
 use crate::timing::Figures;
 use std::env;
 use std::path::Path;
 use std::process::Command;
 
-/// Who is counted.
-const ORDER: [By; 3] = [By::Bare, By::Library, By::Second];
-
 /// How many calls are counted; their bits are spread over all bits.
 const CALLS_COUNTED: usize = 4;
 
-/// The tables of all calls, each row counted in runs of this program under valgrind, which also
+/// The lines of all calls, each row counted in runs of this program under valgrind, which also
 /// writes a file of its own.
-pub fn print(file: &Path) {
+pub fn measure(file: &Path) -> Vec<Line> {
     let mut place = 0;
-    let mut figures = |_: &Row| {
+    lines(|_| {
         let run = |by, calls| instructions(file, [place, by, calls]);
         let without = run(0, 0);
-        let [bare, library, second] =
-            [0, 1, 2].map(|by| (run(by, CALLS_COUNTED) - without) as f64 / CALLS_COUNTED as f64);
+        let counted = |by| (run(by, CALLS_COUNTED) - without) as f64 / CALLS_COUNTED as f64;
+        let figures = Figures::new([0, 1, 2, 3].map(counted));
         place += 1;
-        Figures::new(bare, library, second)
-    };
-    for (call, title) in CALLS {
-        let table = table(call, "instructions", &mut figures);
-        println!("**{title}**\n\n{table}");
-    }
+        figures
+    })
 }
 
 /// The instructions of a whole run of this program: row, who and how many calls.
@@ -60,11 +54,11 @@ pub fn under_valgrind(row: usize, by: usize, calls: usize) {
         .flat_map(|(call, _)| rows(call))
         .nth(row)
         .expect("a row");
-    for by in ORDER {
+    for by in By::ALL {
         assert!(job.does(by, &mut job.sheet.clone(), 0));
     }
     let mut sheets = vec![job.sheet.clone(); CALLS_COUNTED];
     for (turn, sheet) in sheets.iter_mut().take(calls).enumerate() {
-        assert!(job.does(ORDER[by], sheet, job.bit(turn, CALLS_COUNTED)));
+        assert!(job.does(By::ALL[by], sheet, job.bit(turn, CALLS_COUNTED)));
     }
 }

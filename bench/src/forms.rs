@@ -1,9 +1,10 @@
 //! What two forms of the code cost: the loops over pairs of active blocks, and the methods of the settings record.
 
+use crate::files::{Line, NONE};
 use crate::job::Job;
 use crate::places::{both_kinds, settings, SHAPES};
 use crate::sheets::active;
-use crate::table::{grouped, name, Table};
+use crate::table::name;
 use crate::timing::{median, time};
 use harpginger::Kind;
 use second::Settings;
@@ -17,26 +18,17 @@ const ROUNDS: usize = 401;
 const TURNS: usize = 1_000;
 
 /// The number of BadSheet.
-const BAD_SHEET: usize = 6;
+const BAD_SHEET: u64 = 6;
 
-/// Both tables.
-pub fn print() {
-    println!("**Pairs of active blocks**\n\n{}", pairs());
-    println!("**A settings record worked out**\n\n{}", records());
+/// The lines of both tables, measured now.
+pub fn measure() -> Vec<Line> {
+    pairs().into_iter().chain(records()).collect()
 }
 
 /// Readings that leave the loops over pairs at the first pair, at the last pair, or never.
-fn pairs() -> Table {
+fn pairs() -> Vec<Line> {
     let settings = settings(0, SHAPES[0]).expect("accepted settings");
-    let heads = [
-        "active blocks",
-        "pairs",
-        "left at the first pair, ns",
-        "left at the last pair, ns",
-        "the loops, ns",
-        "accepted, ns",
-    ];
-    let mut table = Table::new(&heads, 0);
+    let mut lines = Vec::new();
     for count in [2, 8, settings.k] {
         let bits: Vec<usize> = (0..count).collect();
         let reading = |bits: &[usize], answer| {
@@ -48,28 +40,33 @@ fn pairs() -> Table {
         last[count - 1] = last[count - 2];
         let [first, last, accepted] = [(first, BAD_SHEET), (last, BAD_SHEET), (bits, 0)]
             .map(|(bits, answer)| reading(&bits, answer));
-        let pairs = (count * (count - 1) / 2) as u64;
+        let pairs = count * (count - 1) / 2;
         let [first, last, accepted] = [first, last, accepted].map(|time| time.round() as u64);
         // Of two blocks there is one pair, so that the first is the last.
         let loops = match count {
-            2 => "-".into(),
-            _ => grouped(last.saturating_sub(first)),
+            2 => NONE.into(),
+            _ => last.saturating_sub(first).to_string(),
         };
-        let [count, pairs] = [count as u64, pairs].map(grouped);
-        let [first, last, accepted] = [first, last, accepted].map(grouped);
-        table.row(vec![count, pairs, first, last, loops, accepted]);
+        let words = vec![count.to_string(), pairs.to_string()];
+        let [first, last, accepted] = [first, last, accepted].map(|time| time.to_string());
+        let figures = vec![first, last, loops, accepted];
+        lines.push(Line::new("Pairs of active blocks", words, figures));
     }
-    table
+    lines
 }
 
 /// The time to work a record out once, which each method of the record does.
-fn records() -> Table {
-    let mut table = Table::new(&["settings", "once, ns"], 1);
-    for settings in both_kinds(&SHAPES) {
-        let rounds = (0..ROUNDS).map(|_| worked_out(&settings)).collect();
-        table.row(vec![name(&settings), format!("{:.1}", median(rounds))]);
-    }
-    table
+fn records() -> Vec<Line> {
+    let line = |settings: &Settings| {
+        let rounds = (0..ROUNDS).map(|_| worked_out(settings)).collect();
+        let figures = vec![format!("{:.1}", median(rounds))];
+        Line::new(
+            "A settings record worked out",
+            vec![name(settings)],
+            figures,
+        )
+    };
+    both_kinds(&SHAPES).iter().map(line).collect()
 }
 
 /// The time of one acceptance, in nanoseconds.

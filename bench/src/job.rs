@@ -1,4 +1,4 @@
-//! One call, to be done again and again by the library, by the second program or as a bare pass.
+//! One call, to be done again and again by the library, by the second program or as a pass over the cells.
 
 use crate::compiled::{Compiled, Reply};
 use second::{Answer, Settings};
@@ -18,12 +18,19 @@ pub enum Call {
 /// Who does the job.
 #[derive(Clone, Copy, Debug, PartialEq, Eq)]
 pub enum By {
-    /// Nobody: the cells are summed and nothing else.
-    Bare,
     /// The compiled library.
     Library,
     /// The second program.
     Second,
+    /// Nobody: the cells are summed and nothing else.
+    Sum,
+    /// Nobody: the greatest cell is found and nothing else.
+    Greatest,
+}
+
+impl By {
+    /// All, in the order of a round.
+    pub const ALL: [By; 4] = [By::Library, By::Second, By::Sum, By::Greatest];
 }
 
 /// A call with its settings and its sheet.
@@ -37,7 +44,7 @@ pub struct Job {
     /// A change of this bit; without it, of each bit in turn.
     bit: Option<usize>,
     /// The number of the answer that is expected.
-    answer: usize,
+    answer: u64,
     compiled: Compiled,
 }
 
@@ -58,7 +65,7 @@ impl Job {
     }
 
     /// A change of one bit, with the number of its answer.
-    pub fn change(settings: &Settings, sheet: Vec<u8>, bit: usize, answer: usize) -> Job {
+    pub fn change(settings: &Settings, sheet: Vec<u8>, bit: usize, answer: u64) -> Job {
         Job {
             bit: Some(bit),
             answer,
@@ -67,7 +74,7 @@ impl Job {
     }
 
     /// A reading, with the number of its answer.
-    pub fn reading(settings: &Settings, sheet: Vec<u8>, answer: usize) -> Job {
+    pub fn reading(settings: &Settings, sheet: Vec<u8>, answer: u64) -> Job {
         Job {
             answer,
             ..Job::new(settings, sheet, Call::Read)
@@ -83,12 +90,16 @@ impl Job {
     #[inline(never)]
     pub fn does(&self, by: By, sheet: &mut [u8], bit: usize) -> bool {
         match by {
-            By::Bare => {
-                black_box(bare(black_box(sheet)));
+            By::Library => self.ours(sheet, bit, &mut [0; PLACES]).answer == self.answer,
+            By::Second => self.theirs(sheet, bit, &mut [0; PLACES]).number() == self.answer,
+            By::Sum => {
+                black_box(sum(black_box(sheet)));
                 true
             }
-            By::Library => self.ours(sheet, bit, &mut [0; PLACES]).answer == self.answer,
-            By::Second => self.theirs(sheet, bit, &mut [0; PLACES]).number() == self.answer as u64,
+            By::Greatest => {
+                black_box(greatest(black_box(sheet)));
+                true
+            }
         }
     }
 
@@ -100,8 +111,7 @@ impl Job {
             let (mut our_bits, mut their_bits) = ([0; PLACES], [0; PLACES]);
             let reply = self.ours(&mut ours, bit, &mut our_bits);
             let answer = self.theirs(&mut theirs, bit, &mut their_bits);
-            let same =
-                (answer.number(), answer.value()) == (reply.answer as u64, reply.value as u64);
+            let same = (answer.number(), answer.value()) == (reply.answer, reply.value);
             assert!(
                 same && ours == theirs && our_bits == their_bits,
                 "{answer:?} {reply:?}"
@@ -135,8 +145,14 @@ impl Job {
     }
 }
 
-/// The bare pass: the sum of the levels, which any call has to look at.
+/// A yardstick: the sum of the levels, in 32 bits.
 #[inline(never)]
-pub fn bare(cells: &[u8]) -> u32 {
+pub fn sum(cells: &[u8]) -> u32 {
     cells.iter().map(|&level| u32::from(level)).sum()
+}
+
+/// A yardstick, and the cheapest look at every cell: the greatest level.
+#[inline(never)]
+pub fn greatest(cells: &[u8]) -> u8 {
+    cells.iter().copied().fold(0, u8::max)
 }

@@ -30,7 +30,7 @@ pub struct Measured {
 impl Measured {
     /// Counts of the adversary, of one bit and of each seed, held to the guarantee.
     pub fn new(settings: &Settings, counts: &[u64]) -> Measured {
-        let guarantee = Compiled::accept(settings).guarantee() as u64;
+        let guarantee = Compiled::accept(settings).guarantee();
         assert!(
             counts.iter().all(|&count| count >= guarantee),
             "{settings:?} {counts:?}"

@@ -2,9 +2,10 @@
 
 use crate::bits::Bits;
 use crate::compiled::Compiled;
+use crate::files::Line;
 use crate::job::{Call, Job};
 use crate::places::{both_kinds, stage, SHAPES};
-use crate::table::{cells, heads, name, Table};
+use crate::table::{cells, name};
 use crate::timing::time;
 use second::Settings;
 
@@ -49,46 +50,31 @@ fn all_moves() -> Vec<(Settings, &'static str, Move)> {
     all
 }
 
-/// A table with so many words before its figures.
-fn table(words: &[&str]) -> Table {
-    let numbers = heads("ns");
-    let all: Vec<&str> = words
-        .iter()
-        .copied()
-        .chain(numbers.iter().map(|head| &**head))
-        .collect();
-    Table::new(&all, words.len())
-}
-
-/// The table of all moves, and that of the calls on the sheets that they leave, measured now.
-pub fn print() {
-    let mut made = table(&["settings", "run", "from stage", "to stage"]);
-    let mut after = table(&["settings", "stage", "call"]);
+/// The lines of all moves, and those of the calls on the sheets that they leave, measured now.
+pub fn measure() -> Vec<Line> {
+    let mut lines = Vec::new();
     for (settings, run, found) in all_moves() {
         let to = found.to.map_or("Erase".into(), |to| to.to_string());
-        let words = [
+        let mut line = |title, words, job: &Job| {
+            lines.push(Line::new(title, words, cells(&time(job, ROUNDS))));
+        };
+        let words = vec![
             name(&settings),
             run.into(),
             found.from.to_string(),
             to.clone(),
         ];
-        let figures = cells(&time(&found.job, ROUNDS));
-        made.row(words.into_iter().chain(figures).collect());
+        line("The move", words, &found.job);
         if found.to.is_none() {
             continue;
         }
-        for (call, title) in [(Call::Read, "reading"), (Call::Change, "change")] {
+        for (call, called) in [(Call::Read, "reading"), (Call::Change, "change")] {
             let job = Job::new(&settings, found.after.clone(), call);
-            let words = [name(&settings), to.clone(), title.into()];
-            after.row(
-                words
-                    .into_iter()
-                    .chain(cells(&time(&job, ROUNDS)))
-                    .collect(),
-            );
+            let words = vec![name(&settings), to.clone(), called.into()];
+            line("A reading and a change on the sheet after it", words, &job);
         }
     }
-    println!("**The move**\n\n{made}\n**A reading and a change on the sheet after it**\n\n{after}");
+    lines
 }
 
 /// The moves of one run from an erased sheet to the first Erase, and that Erase.

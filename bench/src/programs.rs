@@ -1,8 +1,9 @@
 //! The program on records: how many a second, the compiled one and the second one.
 
 use crate::bits::Bits;
+use crate::files::Line;
 use crate::places::settings;
-use crate::table::{grouped, ratio, Table};
+use crate::table::{ratio, rounded};
 use crate::timing::median;
 use second::Settings;
 use std::fs::{self, File};
@@ -29,18 +30,10 @@ struct Input {
     records: usize,
 }
 
-/// The table of both programs, measured now; their inputs stand in the folder.
-pub fn print(folder: &Path, compiled: &Path, second: &Path) {
-    let heads = [
-        "records",
-        "how many",
-        "compiled, records/s",
-        "second program, records/s",
-        "compiled / second, time",
-    ];
-    let mut table = Table::new(&heads, 1);
+/// The lines of both programs, measured now; their inputs stand in the folder.
+pub fn measure(folder: &Path, compiled: &Path, second: &Path) -> Vec<Line> {
     fs::create_dir_all(folder).expect("a folder for the inputs");
-    for input in inputs(folder) {
+    let line = |input: Input| {
         assert!(
             input.output(compiled) == input.output(second),
             "the outputs differ: {}",
@@ -49,16 +42,16 @@ pub fn print(folder: &Path, compiled: &Path, second: &Path) {
         let round = |_| [compiled, second].map(|program| input.seconds(program));
         let rounds: Vec<[f64; 2]> = (0..ROUNDS).map(round).collect();
         let of = |figure: fn(&[f64; 2]) -> f64| median(rounds.iter().map(figure).collect());
-        let speed = |time: f64| grouped((input.records as f64 / time).round() as u64);
-        table.row(vec![
-            input.name.into(),
-            grouped(input.records as u64),
+        let speed = |time: f64| rounded(input.records as f64 / time);
+        let figures = vec![
             speed(of(|times| times[0])),
             speed(of(|times| times[1])),
             ratio(of(|times| times[0] / times[1])),
-        ]);
-    }
-    println!("{table}");
+        ];
+        let words = vec![input.name.into(), input.records.to_string()];
+        Line::new("The program", words, figures)
+    };
+    inputs(folder).into_iter().map(line).collect()
 }
 
 /// The inputs, written to the folder.

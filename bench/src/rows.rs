@@ -1,9 +1,10 @@
 //! The rows of calls: each call on a sheet with few blocks in use and on one with many.
 
+use crate::files::Line;
 use crate::job::{Call, Job};
 use crate::places::{both_kinds, stages, SHAPES};
 use crate::sheets::{sheet, Use};
-use crate::table::{cells, heads, name, Table};
+use crate::table::{cells, name};
 use crate::timing::{time, Figures};
 
 /// How many rounds a call is measured for.
@@ -49,32 +50,19 @@ pub fn rows(call: Call) -> Vec<Row> {
     rows
 }
 
-/// A call's table, in this unit, with each row's figures.
-pub fn table(call: Call, unit: &str, mut figures: impl FnMut(&Row) -> Figures) -> Table {
-    let words: &[&str] = match call {
-        Call::Erase => &["settings"],
-        _ => &["settings", "stage", "blocks in use"],
-    };
-    let numbers = heads(unit);
-    let all: Vec<&str> = words
-        .iter()
-        .copied()
-        .chain(numbers.iter().map(|head| &**head))
-        .collect();
-    let mut table = Table::new(&all, words.len());
-    for row in rows(call) {
-        let numbers = cells(&figures(&row));
-        table.row(row.words.iter().cloned().chain(numbers).collect());
+/// The lines of all calls, with each row's figures.
+pub fn lines(mut figures: impl FnMut(&Row) -> Figures) -> Vec<Line> {
+    let mut lines = Vec::new();
+    for (call, title) in CALLS {
+        for row in rows(call) {
+            let figures = cells(&figures(&row));
+            lines.push(Line::new(title, row.words, figures));
+        }
     }
-    table
+    lines
 }
 
-/// The tables of all calls, measured now.
-pub fn print() {
-    for (call, title) in CALLS {
-        println!(
-            "**{title}**\n\n{}",
-            table(call, "ns", |row| time(&row.job, ROUNDS))
-        );
-    }
+/// The lines of all calls, measured now.
+pub fn measure() -> Vec<Line> {
+    lines(|row| time(&row.job, ROUNDS))
 }

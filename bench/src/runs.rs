@@ -2,10 +2,11 @@
 
 use crate::bits::Bits;
 use crate::compiled::Compiled;
-use crate::job::bare;
+use crate::files::Line;
+use crate::job::{greatest, sum};
 use crate::places::both_kinds;
 use crate::slowest::slowest;
-use crate::table::{cells, grouped, heads, name, ratio, Table};
+use crate::table::{cells, name, ratio, rounded};
 use crate::timing::Figures;
 use second::Settings;
 use std::hint::black_box;
@@ -28,28 +29,32 @@ const SEED: u64 = 1;
 /// How many changes a piece has: they stand between two readings of the clock.
 const PIECE: usize = 64;
 
-/// The table of whole runs, measured now.
-pub fn print() {
-    let numbers = heads("ns");
-    let mut all = vec!["settings", "changes"];
-    all.extend(numbers.iter().map(|head| &**head));
-    all.extend(["slowest change, ns", "slowest / bare", "which it is"]);
-    let mut table = Table::new(&all, 1);
+/// The lines of whole runs and of their slowest changes, measured now.
+pub fn measure() -> Vec<Line> {
+    let mut lines = Vec::new();
     for settings in both_kinds(&SHAPES) {
         let bits = run_bits(&settings);
         let pieces: Vec<Figures> = (0..RUNS).flat_map(|_| run(&settings, &bits)).collect();
-        let figures = Figures::median(&pieces);
+        let words = vec![name(&settings), bits.len().to_string()];
+        lines.push(Line::new(
+            "A change",
+            words,
+            cells(&Figures::median(&pieces)),
+        ));
         let (slowest, which) = slowest(&settings, &bits);
-        let mut row = vec![name(&settings), grouped(bits.len() as u64)];
-        row.extend(cells(&figures));
-        row.extend([
-            grouped(slowest.library.round() as u64),
-            ratio(slowest.to_bare),
+        let figures = vec![
+            rounded(slowest.library),
+            ratio(slowest.to_greatest),
+            ratio(slowest.to_sum),
             which,
-        ]);
-        table.row(row);
+        ];
+        lines.push(Line::new(
+            "The slowest change",
+            vec![name(&settings)],
+            figures,
+        ));
     }
-    println!("{table}");
+    lines
 }
 
 /// The bits of the run that are accepted.
@@ -63,7 +68,7 @@ fn run_bits(settings: &Settings) -> Vec<usize> {
         .collect()
 }
 
-/// One run, piece by piece in turn by the library, the second program and as bare passes.
+/// One run, piece by piece in turn by the library, the second program and as passes over the cells.
 fn run(settings: &Settings, bits: &[usize]) -> Vec<Figures> {
     let library = Compiled::accept(settings);
     let (mut ours, mut theirs) = (vec![0; settings.n], vec![0; settings.n]);
@@ -72,9 +77,10 @@ fn run(settings: &Settings, bits: &[usize]) -> Vec<Figures> {
         let library = nanoseconds(bits, by_library);
         let by_second = |bit| second::change(settings, &mut theirs, bit).number() == 0;
         let second = nanoseconds(bits, by_second);
-        let bare = nanoseconds(bits, |_| black_box(bare(black_box(&ours))) > 0);
+        let sum = nanoseconds(bits, |_| black_box(sum(black_box(&ours))) > 0);
+        let greatest = nanoseconds(bits, |_| black_box(greatest(black_box(&ours))) > 0);
         assert_eq!(ours, theirs, "the sheets after a piece");
-        Figures::new(bare, library, second)
+        Figures::new([library, second, sum, greatest])
     };
     bits.chunks(PIECE).map(&mut piece).collect()
 }

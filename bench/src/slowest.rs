@@ -26,7 +26,7 @@ pub fn slowest(settings: &Settings, bits: &[usize]) -> (Figures, String) {
     let all = changes_at(settings, bits, &places)
         .into_iter()
         .map(measured);
-    let slowest = all.max_by(|one, other| one.0.to_bare.total_cmp(&other.0.to_bare));
+    let slowest = all.max_by(|one, other| one.0.to_sum.total_cmp(&other.0.to_sum));
     slowest.expect("a run has a change")
 }
 

@@ -42,26 +42,22 @@ impl fmt::Display for Table {
     }
 }
 
-/// The heads of the five figures, in this unit.
-pub fn heads(unit: &str) -> [String; 5] {
-    [
-        format!("bare pass, {unit}"),
-        format!("library, {unit}"),
-        format!("second program, {unit}"),
-        "library / bare".into(),
-        "library / second".into(),
-    ]
+/// The figures of a call as a file keeps them.
+pub fn cells(figures: &Figures) -> Vec<String> {
+    let whole = [
+        figures.library,
+        figures.second,
+        figures.sum,
+        figures.greatest,
+    ];
+    let shares = [figures.to_second, figures.to_sum, figures.to_greatest];
+    let whole = whole.map(rounded);
+    whole.into_iter().chain(shares.map(ratio)).collect()
 }
 
-/// The five figures as cells.
-pub fn cells(figures: &Figures) -> [String; 5] {
-    [
-        grouped(figures.bare.round() as u64),
-        grouped(figures.library.round() as u64),
-        grouped(figures.second.round() as u64),
-        ratio(figures.to_bare),
-        ratio(figures.to_second),
-    ]
+/// A cell as the page shows it: a whole number with commas.
+pub fn shown(cell: &str) -> String {
+    cell.parse().map_or(cell.into(), grouped)
 }
 
 /// Kind, k, L and n as one cell.
@@ -82,6 +78,11 @@ pub fn grouped(number: u64) -> String {
         }
     }
     text
+}
+
+/// A figure as a whole number.
+pub fn rounded(figure: f64) -> String {
+    (figure.round() as u64).to_string()
 }
 
 /// A ratio to two places.

@@ -1,4 +1,4 @@
-//! The clock: library, second program and bare pass in turn, round after round.
+//! The clock: library, second program, sum and greatest byte in turn, round after round.
 
 use crate::job::{By, Job};
 use std::time::Instant;
@@ -6,28 +6,33 @@ use std::time::Instant;
 /// The figures of one row, in nanoseconds or in instructions for one call.
 #[derive(Clone, Copy, Debug)]
 pub struct Figures {
-    /// Of the bare pass.
-    pub bare: f64,
     /// Of the library.
     pub library: f64,
     /// Of the second program.
     pub second: f64,
-    /// The library's share of the bare pass.
-    pub to_bare: f64,
+    /// Of the sum.
+    pub sum: f64,
+    /// Of the greatest byte.
+    pub greatest: f64,
     /// The library's share of the second program.
     pub to_second: f64,
+    /// The library's share of the sum.
+    pub to_sum: f64,
+    /// The library's share of the greatest byte.
+    pub to_greatest: f64,
 }
 
 impl Figures {
-    /// The figures of one round.
-    pub fn new(bare: f64, library: f64, second: f64) -> Figures {
-        let (to_bare, to_second) = (library / bare, library / second);
+    /// The figures of one round, in the order of `By::ALL`.
+    pub fn new([library, second, sum, greatest]: [f64; 4]) -> Figures {
         Figures {
-            bare,
             library,
             second,
-            to_bare,
-            to_second,
+            sum,
+            greatest,
+            to_second: library / second,
+            to_sum: library / sum,
+            to_greatest: library / greatest,
         }
     }
 
@@ -35,11 +40,13 @@ impl Figures {
     pub fn median(rounds: &[Figures]) -> Figures {
         let of = |figure: fn(&Figures) -> f64| median(rounds.iter().map(figure).collect());
         Figures {
-            bare: of(|figures| figures.bare),
             library: of(|figures| figures.library),
             second: of(|figures| figures.second),
-            to_bare: of(|figures| figures.to_bare),
+            sum: of(|figures| figures.sum),
+            greatest: of(|figures| figures.greatest),
             to_second: of(|figures| figures.to_second),
+            to_sum: of(|figures| figures.to_sum),
+            to_greatest: of(|figures| figures.to_greatest),
         }
     }
 }
@@ -57,11 +64,7 @@ const CELLS: usize = 1 << 18;
 pub fn time(job: &Job, rounds: usize) -> Figures {
     job.check();
     let mut copies = vec![0; CELLS / job.sheet.len() * job.sheet.len()];
-    let mut round = |_| {
-        let [library, second, bare] =
-            [By::Library, By::Second, By::Bare].map(|by| nanoseconds(job, by, &mut copies));
-        Figures::new(bare, library, second)
-    };
+    let mut round = |_| Figures::new(By::ALL.map(|by| nanoseconds(job, by, &mut copies)));
     let rounds: Vec<Figures> = (0..rounds).map(&mut round).collect();
     Figures::median(&rounds)
 }

@@ -6,7 +6,7 @@
 //! crate adds lengths and lifetimes, and no rule of its own.
 //!
 //! ```
-//! use harpginger::{Answer, Kind, Settings, Sheet};
+//! use harpginger::{Error, Kind, Settings, Sheet};
 //!
 //! let settings = Settings::accept(Kind::Plain, 2, 1, 4)?;
 //! assert_eq!(settings.guarantee(), 3);
@@ -14,26 +14,66 @@
 //! let mut cells = [0; 4];
 //! let mut sheet = Sheet::erased(settings, &mut cells)?;
 //! assert_eq!(sheet.change(0), Ok(1));
-//! assert_eq!(sheet.change(1), Ok(1));
+//! assert_eq!(sheet.set(1, true), Ok(1));
+//! assert_eq!(sheet.set(1, true), Ok(0));
 //! assert_eq!(sheet.change(0), Ok(1));
-//! assert_eq!(sheet.read()?, [false, true]);
-//! assert_eq!(sheet.change(0), Err(Answer::Erase));
-//! # Ok::<(), Answer>(())
+//! assert_eq!((sheet.bit(0), sheet.bit(1)), (Ok(false), Ok(true)));
+//! assert_eq!(sheet.change(0), Err(Error::Erase));
+//! # Ok::<(), Error>(())
 //! ```
+//!
+//! The crate is `no_std`. The feature `alloc`, which is on unless it is turned off, adds the bits
+//! of a sheet as a `Vec`. Nothing is kept between calls, so sheets are independent, on any thread.
 //!
 //! # Linking
 //!
-//! The library is the archive `libcapi.a`. `checks/native` writes it for this machine to
-//! `../target/native`, which is linked where it is there; `rt staticlib capi` writes the one for
-//! x86-64 to `../target/staticlib`. `HARPGINGER_ARCHIVE` names another folder at build time.
+//! The library is the archive `libharpginger.a`. In the repository `checks/native` writes it for
+//! this machine to `target/native`, and `checks/native TARGET` for another one to
+//! `target/native/TARGET`; `rt staticlib harpginger` writes the one for x86-64 to
+//! `target/staticlib`. It is found there. `HARPGINGER_ARCHIVE` names another folder at build time:
+//! absolute, or from where cargo was started, or from this package's folder. So does Cargo's
+//! configuration:
+//!
+//! ```toml
+//! [env]
+//! HARPGINGER_ARCHIVE = { value = "lib", relative = true }
+//! ```
 
+#![no_std]
 #![deny(missing_docs)]
+// One place has them, and says why each is right.
+#![deny(unsafe_code, clippy::as_conversions)]
+#![deny(clippy::undocumented_unsafe_blocks)]
 
-mod answer;
+#[cfg(feature = "alloc")]
+extern crate alloc;
+
+mod error;
+#[allow(unsafe_code)]
 mod foreign;
 mod settings;
 mod sheet;
+mod view;
 
-pub use answer::Answer;
-pub use settings::{Kind, Settings};
+pub use error::Error;
+pub use settings::{Kind, Settings, MOST_BITS, MOST_CELLS, MOST_LEVEL};
 pub use sheet::Sheet;
+pub use view::View;
+
+/// The version of the C interface that this crate is written for.
+///
+/// ```
+/// assert_eq!(harpginger::version(), harpginger::VERSION);
+/// ```
+pub const VERSION: u64 = 2;
+
+/// The version of the C interface that the linked archive has. Another one than [`VERSION`] may
+/// give answers that this crate only knows as [`Error::Unknown`].
+///
+/// ```
+/// assert_eq!(harpginger::version(), 2);
+/// ```
+#[must_use]
+pub fn version() -> u64 {
+    foreign::version()
+}

@@ -1,39 +1,19 @@
 //! The numbers of the exact rules, through the compiled library.
 
-use harpginger::{Answer, Kind, Settings, Sheet};
+mod common;
 
-fn guarantee(kind: Kind, k: usize, top: usize, n: usize) -> Result<usize, Answer> {
+use common::{bits, levels, small, staged, with_block};
+use harpginger::{Error, Kind, Settings, Sheet};
+
+fn guarantee(kind: Kind, k: usize, top: usize, n: usize) -> Result<u64, Error> {
     Settings::accept(kind, k, top, n).map(|settings| settings.guarantee())
-}
-
-/// Cells from digits; whatever is no digit only parts them.
-fn levels(text: &str) -> Vec<u8> {
-    text.bytes()
-        .filter(u8::is_ascii_digit)
-        .map(|digit| digit - b'0')
-        .collect()
-}
-
-/// A plain sheet for k = 4, L = 2 with this one block.
-fn with_block(block: &str) -> Vec<u8> {
-    let mut cells = levels(block);
-    cells.resize(16, 0);
-    cells
-}
-
-fn small() -> Settings {
-    Settings::accept(Kind::Plain, 4, 2, 16).unwrap()
-}
-
-fn staged() -> Settings {
-    Settings::accept(Kind::Staged, 4, 2, 28).unwrap()
 }
 
 #[test]
 fn plain_guarantees() {
     assert_eq!(guarantee(Kind::Plain, 2, 1, 4), Ok(3));
-    assert_eq!(guarantee(Kind::Plain, 2, 1, 3), Err(Answer::BadShape));
-    assert_eq!(guarantee(Kind::Plain, 3, 1, 9), Err(Answer::BadShape));
+    assert_eq!(guarantee(Kind::Plain, 2, 1, 3), Err(Error::BadShape));
+    assert_eq!(guarantee(Kind::Plain, 3, 1, 9), Err(Error::BadShape));
     assert!(guarantee(Kind::Plain, 3, 2, 9).is_ok());
     assert_eq!(guarantee(Kind::Plain, 4, 2, 16), Ok(11));
     assert_eq!(guarantee(Kind::Plain, 4, 2, 19), Ok(11));
@@ -49,7 +29,7 @@ fn staged_settings() {
     assert_eq!((settings.cells(), settings.blocks()), (28, 4));
     assert_eq!((settings.stages(), settings.width()), (2, 2));
     assert_eq!(settings.guarantee(), 17);
-    assert_eq!(guarantee(Kind::Staged, 4, 2, 27), Err(Answer::BadShape));
+    assert_eq!(guarantee(Kind::Staged, 4, 2, 27), Err(Error::BadShape));
     assert_eq!(guarantee(Kind::Staged, 64, 15, 16_384), Ok(224_355));
 }
 
@@ -57,8 +37,8 @@ fn staged_settings() {
 fn settings_of_any_size_are_refused() {
     let most = usize::MAX;
     for (k, top, n) in [(most, 1, 4), (2, most, 4), (2, 1, most), (most, most, most)] {
-        assert_eq!(guarantee(Kind::Plain, k, top, n), Err(Answer::BadShape));
-        assert_eq!(guarantee(Kind::Staged, k, top, n), Err(Answer::BadShape));
+        assert_eq!(guarantee(Kind::Plain, k, top, n), Err(Error::BadShape));
+        assert_eq!(guarantee(Kind::Staged, k, top, n), Err(Error::BadShape));
     }
 }
 
@@ -73,7 +53,7 @@ fn blocks_of_a_cycle() {
     ] {
         let mut cells = with_block(block);
         let mut sheet = Sheet::over(small(), &mut cells);
-        assert_eq!(sheet.read().unwrap()[bit], value, "{block}");
+        assert_eq!(bits(sheet.view()).unwrap()[bit], value, "{block}");
         assert_eq!(sheet.change(bit), Ok(1), "{block}");
         assert_eq!(sheet.cells(), with_block(next), "{block}");
     }
@@ -84,8 +64,8 @@ fn blocks_off_every_cycle() {
     for block in ["1100", "2020", "1111"] {
         let mut cells = with_block(block);
         let mut sheet = Sheet::over(small(), &mut cells);
-        assert_eq!(sheet.read(), Err(Answer::BadSheet), "{block}");
-        assert_eq!(sheet.change(0), Err(Answer::BadSheet), "{block}");
+        assert_eq!(bits(sheet.view()), Err(Error::BadSheet), "{block}");
+        assert_eq!(sheet.change(0), Err(Error::BadSheet), "{block}");
         assert_eq!(cells, with_block(block));
     }
 }
@@ -99,7 +79,7 @@ fn a_move_and_what_follows() {
         sheet.cells(),
         levels("1010 0110 0010 2222 | 01 02 10 11 00 00")
     );
-    assert_eq!(sheet.read(), Ok(vec![true; 4]));
+    assert_eq!(bits(sheet.view()), Ok(vec![true; 4]));
     for (raised, after) in [
         (1, "1020 0110 0010 2222 | 01 02 10 11 00 00"),
         (1, "1021 0110 0010 2222 | 01 02 10 11 00 00"),
@@ -116,13 +96,10 @@ fn refusals_in_order_change_nothing() {
     let mut cells = with_block("3110");
     let mut out = [7; 4];
     let mut sheet = Sheet::over(small(), &mut cells);
-    assert_eq!(
-        sheet.read_into(&mut out[..3]).unwrap_err(),
-        Answer::ShortOutput
-    );
-    assert_eq!(sheet.read_into(&mut out).unwrap_err(), Answer::BadLevel(0));
-    assert_eq!(sheet.change(4), Err(Answer::BadBit));
-    assert_eq!(sheet.change(3), Err(Answer::BadLevel(0)));
+    assert_eq!(sheet.read_into(&mut out[..3]), Err(Error::ShortOutput));
+    assert_eq!(sheet.read_into(&mut out), Err(Error::BadLevel(0)));
+    assert_eq!(sheet.change(4), Err(Error::BadBit));
+    assert_eq!(sheet.change(3), Err(Error::BadLevel(0)));
     assert_eq!((cells, out), (with_block("3110"), [7; 4]));
 }
 
@@ -131,9 +108,9 @@ fn sheets_of_another_length() {
     for length in [0, 15, 17] {
         let mut cells = vec![1; length];
         let mut sheet = Sheet::over(small(), &mut cells);
-        assert_eq!(sheet.erase(), Err(Answer::BadLength));
-        assert_eq!(sheet.read(), Err(Answer::BadLength));
-        assert_eq!(sheet.change(usize::MAX), Err(Answer::BadLength));
+        assert_eq!(sheet.erase(), Err(Error::BadLength));
+        assert_eq!(bits(sheet.view()), Err(Error::BadLength));
+        assert_eq!(sheet.change(usize::MAX), Err(Error::BadLength));
         assert_eq!(cells, vec![1; length]);
     }
 }
@@ -151,12 +128,12 @@ fn erase_comes_after_the_guarantee() {
     for settings in [small(), staged()] {
         let mut cells = vec![1; settings.cells()];
         let mut sheet = Sheet::erased(settings, &mut cells).unwrap();
-        let mut accepted = 0;
-        while sheet.change(accepted % settings.bits()).is_ok() {
+        let (mut accepted, mut bit) = (0, 0);
+        while sheet.change(bit).is_ok() {
             accepted += 1;
+            bit = (bit + 1) % settings.bits();
         }
-        let last = sheet.change(accepted % settings.bits());
-        assert_eq!(last, Err(Answer::Erase));
+        assert_eq!(sheet.change(bit), Err(Error::Erase));
         assert!(accepted >= settings.guarantee());
     }
 }

@@ -1,6 +1,7 @@
-//! Prints one part of the benchmarks: calls, forms, moves, runs, programs or counts.
+//! Measures one part of the benchmarks and prints its file, or prints one part of the page from the files of a folder.
 
-use bench::{count, forms, moves, programs, rows, runs};
+use bench::files::{processors, text, Line};
+use bench::{count, forms, moves, page, programs, rows, runs, sizes, summary};
 use std::path::Path;
 use std::process::ExitCode;
 
@@ -8,24 +9,52 @@ fn main() -> ExitCode {
     let words: Vec<String> = std::env::args().skip(1).collect();
     let words: Vec<&str> = words.iter().map(|word| &**word).collect();
     match words[..] {
-        ["calls"] => rows::print(),
-        ["forms"] => forms::print(),
-        ["moves"] => moves::print(),
-        ["runs"] => runs::print(),
-        ["programs", folder, compiled, second] => {
-            programs::print(Path::new(folder), Path::new(compiled), Path::new(second));
-        }
-        ["counts", file] => count::print(Path::new(file)),
         ["counted", row, by, calls] => {
             let [row, by, calls] = [row, by, calls].map(|word| word.parse().expect("a number"));
             count::under_valgrind(row, by, calls);
         }
-        _ => {
-            eprintln!(
-                "figures: calls, forms, moves, runs, programs FOLDER COMPILED SECOND, or counts FILE"
-            );
-            return ExitCode::FAILURE;
-        }
+        ["page", part, folder] => print(part, Path::new(folder)),
+        ["measure", machine, part, ref rest @ ..] => match measured(part, rest) {
+            Some(lines) => print!("{}", text(part, machine, &lines)),
+            None => return usage(),
+        },
+        _ => return usage(),
     }
     ExitCode::SUCCESS
+}
+
+/// The lines of a part, measured now.
+fn measured(part: &str, rest: &[&str]) -> Option<Vec<Line>> {
+    let lines = match (part, rest) {
+        ("calls", []) => rows::measure(),
+        ("forms", []) => forms::measure(),
+        ("moves", []) => moves::measure(),
+        ("runs", []) => runs::measure(),
+        ("programs", &[folder, compiled, second]) => {
+            programs::measure(Path::new(folder), Path::new(compiled), Path::new(second))
+        }
+        ("counts", &[file]) => count::measure(Path::new(file)),
+        _ => return None,
+    };
+    Some(lines)
+}
+
+/// One part of the page.
+fn print(part: &str, folder: &Path) {
+    let processors = processors(folder);
+    match part {
+        "summary" => {
+            let lines = summary::lines(&processors, &sizes::parse(folder).1);
+            println!("{}\n", lines.join("\n"));
+        }
+        "machine" => print!("{}", page::machines(&processors)),
+        "yardsticks" => print!("{}", page::yardsticks(&processors)),
+        "sizes" => sizes::print(folder),
+        _ => print!("{}", page::part(&processors, part)),
+    }
+}
+
+fn usage() -> ExitCode {
+    eprintln!("figures: measure MACHINE calls, forms, moves, runs, programs FOLDER COMPILED SECOND, or counts FILE; or page PART FOLDER");
+    ExitCode::FAILURE
 }

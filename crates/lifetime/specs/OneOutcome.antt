@@ -5,7 +5,7 @@ use mathlib.Core.List.{List}
 use Prim.Native.Nat.{ℕ}
 use Rattle.rules.specs.Answer.{numberOf, valueOf}
 use Rattle.rules.specs.AnswerLaws.{answer-one}
-use Rattle.rules.specs.Promises.{Gives, SettingsPromise, ErasePromise, ReadPromise, ChangePromise, WorkOutPromise, GenuinePromise, GuaranteePromise, BlocksPromise, WidthPromise, BatchStartPromise, NumberPromise, ValuePromise, RecordPromise, SumPromise, BitsPromise, SettingsIntoPromise, EraseByPromise, ReadByPromise, ChangeByPromise}
+use Rattle.rules.specs.Promises.{Gives, SettingsPromise, ErasePromise, ReadPromise, ChangePromise, WorkOutPromise, GenuinePromise, GuaranteePromise, BlocksPromise, WidthPromise, BatchStartPromise, NumberPromise, ValuePromise, RecordPromise, SumPromise, BitsPromise, SettingsIntoPromise, EraseByPromise, ReadByPromise, ChangeByPromise, VersionPromise}
 use Rattle.rules.specs.declared.Settings.{Settings}
 use Rattle.rules.specs.declared.Answer.{Answer}
 
@@ -112,3 +112,7 @@ read-by-one numbers xs out c d v w ps qs p q = gives-one p q
 -- change: one number, value and sheet after
 pub change-by-one : (numbers xs : List ℕ) (i : ℕ) (c d v w : ℕ) (ys zs : List ℕ) → ChangeByPromise numbers xs i c v ys → ChangeByPromise numbers xs i d w zs → One c d v w ys zs
 change-by-one numbers xs i c d v w ys zs p q = gives-one p q
+
+-- the version of the interface
+pub version-one : (a b : ℕ) → VersionPromise a → VersionPromise b → a ≡ b
+version-one a b p q = both-equal p q

@@ -3,4 +3,5 @@ pub mod Meaning
 pub mod Laws
 pub mod ReadLaws
 pub mod HeldLaws
+pub mod InputLaws
 pub mod Refusals

@@ -26,3 +26,7 @@ recordInto xs x = pick (ℕ-discrete (length xs) 7) (numbersOf (x .settings)) xs
 -- what settings answer: BadShape where there are not seven numbers
 abbrev pub answerInto : List ℕ → Setup → Answer
 answerInto xs x = pick (ℕ-discrete (length xs) 7) (x .answer) BadShape
+
+-- the version of the C interface: a number more whenever a function, an answer or a place of the record is added or means something else
+abbrev pub version : ℕ
+version = 2

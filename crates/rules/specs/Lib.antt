@@ -15,6 +15,7 @@ pub mod GuaranteeLaws
 pub mod BatchLaws
 pub mod Calls
 pub mod Records
+pub mod Input
 pub mod Interface
 pub mod Promises
 pub mod AnswerLaws

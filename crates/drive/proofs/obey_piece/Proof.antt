@@ -1,20 +1,29 @@
--- The next place and the lengths stay in bounds, and each record ends later than it starts.
-use mathlib.Core.Path.{_≡_, sym}
-use Prim.Native.Nat.{_≤_, _-_}
-use lib.ListN.{length}
-use lib.Seq.{length-take-le}
+-- What the records of the piece leave is what those that are left leave of what is held.
+use mathlib.Core.Path.{_≡_, refl, sym, ap, _∙_}
+use Prim.Native.Nat.{ℕ, min, _+_, _*_, _/_, _-_, _≤_}
+use native.Mathlib.Omega.{arith}
+use lib.ListN.{length, drop, length-drop}
 use borrow.Author.Needs.{needs}
+use Rattle.rules.specs.Cells.{chop}
+use Rattle.rules.specs.Input.{sheetHeld, recordsOf, inTurn}
+use Rattle.drive.specs.Laws.{front-least, piece-step}
 use Rattle.drive.proofs.obey_piece.Statement.{statement}
 use Rattle.drive.proofs.obey_piece.Tie as tie
 
 abbrev Inv-loop : tie.InvT-loop
-Inv-loop bytes cells₀ out₀ held₀ at₀ a₀ cells out held at a = (a ≤ length bytes) × (at ≤ length out) × (length out ≡ length out₀) × (length cells ≡ length cells₀)
+Inv-loop bytes cells₀ out₀ settings₀ end₀ a₀ left₀ cells out settings end a left =
+    (left ≡ (length bytes - a + 7) / 8) × (a ≤ length bytes) × (end + left * 128 ≤ length out) × (length out ≡ length out₀) × (length cells ≡ length cells₀)
+    × (inTurn (sheetHeld settings₀ cells₀) (recordsOf bytes) ≡ inTurn (sheetHeld settings cells) (chop 8 left (drop a bytes)))
 
 abbrev μ-loop : tie.MeasureT-loop
-μ-loop bytes cells₀ out₀ held₀ at₀ a₀ cells out held at a = length bytes - a
+μ-loop bytes cells₀ out₀ settings₀ end₀ a₀ left₀ cells out settings end a left = left
+
+add-left : tie.Need-add-left Inv-loop μ-loop
+add-left c = search needs
 
 loop-holds : tie.Need-loop-holds Inv-loop μ-loop
-loop-holds c = search needs
+unfolding recordsOf
+loop-holds c = (omega arith, omega arith, omega arith, refl, refl, refl)
 
 record-end-requires : tie.Need-record-end-requires Inv-loop μ-loop
 record-end-requires c κs = search needs
@@ -31,26 +40,23 @@ part-obey-end c = search needs
 obey-requires : tie.Need-obey-requires Inv-loop μ-loop
 obey-requires c κs = search needs
 
-room-requires : tie.Need-room-requires Inv-loop μ-loop
-room-requires c κs = search needs
-
 put-line-requires : tie.Need-put-line-requires Inv-loop μ-loop
 put-line-requires c κs = search needs
+
+sub-left : tie.Need-sub-left Inv-loop μ-loop
+sub-left c = search needs
 
 loop-less : tie.Need-loop-less Inv-loop μ-loop
 loop-less c = search needs
 
 loop-again : tie.Need-loop-again Inv-loop μ-loop
-loop-again c = search needs
-
-slice-reshare-prefix-write-all : tie.Need-slice-reshare-prefix-write-all Inv-loop μ-loop
-slice-reshare-prefix-write-all c = search needs
-
-slice-aggregate-write-all : tie.Need-slice-aggregate-write-all Inv-loop μ-loop
-slice-aggregate-write-all c = sym (length-take-le _ _ (c .before .before .loop .inv .1))
-
-write-all-requires : tie.Need-write-all-requires Inv-loop μ-loop
-write-all-requires c κs = search needs
+loop-again c =
+    let r = c .before .before .before .before .before .before .before .before .before .before .before in
+    let t = r .before .before .loop in
+    let a = r .before .before .before .before .before .before .args in
+    let f = r .record-end .ensures .2 in
+    let m : r .record-end .result - t .a ≡ min 8 (length (a .bytes .now) - t .a) = omega (arith, front-least 8 (drop (t .a) (a .bytes .now)) (r .record-end .result - t .a) f, length-drop (t .a) (a .bytes .now)) in
+    (omega arith, r .record-end .ensures .1, omega arith, search needs, search needs, piece-step (a .bytes .now) (t .a) (r .record-end .result) (t .left) (t .settings) _ (t .cells) _ (t .inv .5) (omega arith) (r .record-end .ensures .0) f (c .before .before .before .before .before .before .before .before .obey .ensures .leaves))
 
 same-length : tie.Need-same-length Inv-loop μ-loop
 same-length c = search needs
@@ -59,7 +65,11 @@ same-length-2 : tie.Need-same-length-2 Inv-loop μ-loop
 same-length-2 c = search needs
 
 returns : tie.Need-returns Inv-loop μ-loop
-returns c = search needs
+returns c =
+    let t = c .before .loop in
+    let e : t .left ≡ 0 = omega arith in
+    let a = c .before .before .before .before .before .args in
+    (sym (t .inv .5 ∙ ap (λ (n : ℕ). inTurn (sheetHeld (t .settings) (t .cells)) (chop 8 n (drop (t .a) (a .bytes .now)))) e), omega arith)
 
 pub obey-piece-spec : {M : Type 1} → statement M
 obey-piece-spec =
@@ -67,19 +77,17 @@ obey-piece-spec =
     (tie.spec
     Inv-loop
     μ-loop
+    add-left
     loop-holds
     record-end-requires
     sub-obey
     part-obey-start
     part-obey-end
     obey-requires
-    room-requires
     put-line-requires
+    sub-left
     loop-less
     loop-again
-    slice-reshare-prefix-write-all
-    slice-aggregate-write-all
-    write-all-requires
     same-length
     same-length-2
     returns)

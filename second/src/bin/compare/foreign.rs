@@ -2,9 +2,9 @@
 
 use second::compare::{Library, Reply};
 
-const _: () = assert!(usize::BITS == 64, "a size_t of the archive has 64 bits");
+const _: () = assert!(usize::BITS == 64, "a number of the archive has 64 bits");
 
-#[link(name = "capi", kind = "static")]
+#[link(name = "harpginger", kind = "static")]
 extern "C" {
     fn harpginger_settings(
         kind: usize,

@@ -30,7 +30,7 @@
 //! checks/memory
 //! ```
 //!
-//! The compiled library is linked where HARPGINGER_ARCHIVE names the folder of libcapi.a while this
+//! The compiled library is linked where HARPGINGER_ARCHIVE names the folder of libharpginger.a while this
 //! is built. The last line counts each group and each part of the self-check as one; the exit
 //! status is 0 only if none failed.
 

@@ -1,0 +1,154 @@
+-- What some pieces of an input leave stays so by one more, and where the loop ends it is what an input leaves.
+use mathlib.Core.Path.{_≡_, sym}
+use mathlib.Core.List.{List}
+use Prim.Native.Nat.{ℕ, _+_, _<_}
+use native.Mathlib.Omega.{arith}
+use lib.ListN.{length, take}
+use lib.Seq.{length-take-le}
+use borrow.Author.Needs.{needs}
+use Rattle.rules.specs.Input.{OfInput}
+use Rattle.drive.specs.Meaning.{OfPieces}
+use Rattle.drive.specs.Laws.{none-read, piece-more, input-stopped, input-read}
+use Rattle.drive.proofs.follow.Statement.{statement}
+use Rattle.drive.proofs.follow.Tie as tie
+
+abbrev Inv-loop : tie.InvT-loop
+Inv-loop bytes₀ cells₀ out₀ held₀ waiting₀ turns₀ t10 bytes cells out held waiting turns = OfPieces cells₀ held cells (take waiting bytes) × (waiting < 8) × (length bytes ≡ 512) × (length out ≡ 8192) × (length cells ≡ length cells₀)
+
+abbrev μ-loop : tie.MeasureT-loop
+μ-loop bytes₀ cells₀ out₀ held₀ waiting₀ turns₀ t10 bytes cells out held waiting turns = turns
+
+-- after a reading of some bytes the input is a piece longer
+turned : (c : tie.After-held Inv-loop μ-loop) → 0 < c .before .before .before .before .before .before .before .before .before .before .before .before .before .before .read-more .result .count → OfPieces (c .before .before .before .before .before .before .before .before .before .before .before .before .before .before .before .before .before .before .before .before .before .args .cells .now) (c .before .before .before .before .before .before .before .take-reading .result .settings) (c .before .before .before .before .before .before .before .take-reading .last .1 .1 .1 .1 .0) (take (c .before .before .before .before .before .before .before .take-reading .result .waiting) (c .before .before .before .before .before .before .before .take-reading .last .0))
+turned c p =
+    let t = c .before .before .before .before .before .before .before .before .before .before .before .before .before .before .before .before .before .loop in
+    let r = c .before .before .before .before .before .before .before .before .before .before .before .before .before .before .read-more in
+    piece-more (t .bytes) (r .last .0) (t .waiting) (r .result .count) (t .inv .0) (r .ensures .1) p (r .ensures .0) (c .before .before .before .before .before .before .before .take-reading .ensures .0)
+
+-- after any reading what is held is what an input leaves
+told : (c : tie.After-held Inv-loop μ-loop) → OfInput (c .before .before .before .before .before .before .before .before .before .before .before .before .before .before .before .before .before .before .before .before .before .args .cells .now) (c .before .before .before .before .before .before .before .take-reading .result .settings) (c .before .before .before .before .before .before .before .take-reading .last .1 .1 .1 .1 .0)
+told c =
+    let t = c .before .before .before .before .before .before .before .before .before .before .before .before .before .before .before .before .before .loop in
+    let r = c .before .before .before .before .before .before .before .before .before .before .before .before .before .before .read-more in
+    input-read (t .bytes) (r .last .0) (t .waiting) (r .result .count) (t .inv .0) (r .ensures .1) (r .ensures .0) (c .before .before .before .before .before .before .before .take-reading .ensures .0)
+
+-- and every length as it was
+lengths : (c : tie.After-held Inv-loop μ-loop) → (length (c .before .before .before .before .before .before .before .take-reading .last .0) ≡ 512) × (length (c .before .before .before .before .before .before .before .take-reading .last .1 .1 .1 .1 .1 .0) ≡ 8192) × (length (c .before .before .before .before .before .before .before .take-reading .last .1 .1 .1 .1 .0) ≡ length (c .before .before .before .before .before .before .before .before .before .before .before .before .before .before .before .before .before .before .before .before .before .args .cells .now))
+lengths c = (omega arith, omega arith, omega arith)
+
+loop-holds : tie.Need-loop-holds Inv-loop μ-loop
+loop-holds c = (none-read _, omega arith, search needs, search needs, search needs)
+
+read-more-requires : tie.Need-read-more-requires Inv-loop μ-loop
+read-more-requires c κs = search needs
+
+slice-aggregate-write-all : tie.Need-slice-aggregate-write-all Inv-loop μ-loop
+slice-aggregate-write-all c = search needs
+
+write-all-requires : tie.Need-write-all-requires Inv-loop μ-loop
+write-all-requires c κs = search needs
+
+same-length : tie.Need-same-length Inv-loop μ-loop
+same-length c = search needs
+
+same-length-2 : tie.Need-same-length-2 Inv-loop μ-loop
+same-length-2 c = search needs
+
+same-length-3 : tie.Need-same-length-3 Inv-loop μ-loop
+same-length-3 c = search needs
+
+returns : tie.Need-returns Inv-loop μ-loop
+returns c = input-stopped (c .before .before .before .before .before .before .before .before .loop .inv .0)
+
+take-reading-requires : tie.Need-take-reading-requires Inv-loop μ-loop
+take-reading-requires c κs = (c .before .before .before .before .before .before .read-more .ensures .0, omega (arith, c .before .before .before .before .before .before .read-more .ensures .0))
+
+slice-reshare-prefix-write-lines : tie.Need-slice-reshare-prefix-write-lines Inv-loop μ-loop
+slice-reshare-prefix-write-lines c = search needs
+
+slice-aggregate-write-lines : tie.Need-slice-aggregate-write-lines Inv-loop μ-loop
+slice-aggregate-write-lines c = sym (length-take-le _ _ (c .before .before .before .before .before .before .before .before .take-reading .ensures .2))
+
+write-lines-requires : tie.Need-write-lines-requires Inv-loop μ-loop
+write-lines-requires c κs = search needs
+
+same-length-4 : tie.Need-same-length-4 Inv-loop μ-loop
+same-length-4 c = omega (arith, lengths (c .before .before .before), c .before .before .before .before .before .before .before .before .before .before .before .before .before .before .before .before .before .before .before .before .before .before .before .before .pre .0)
+
+same-length-5 : tie.Need-same-length-5 Inv-loop μ-loop
+same-length-5 c = search needs
+
+same-length-6 : tie.Need-same-length-6 Inv-loop μ-loop
+same-length-6 c = omega (arith, lengths (c .before .before .before), c .before .before .before .before .before .before .before .before .before .before .before .before .before .before .before .before .before .before .before .before .before .before .before .before .pre .1)
+
+returns-2 : tie.Need-returns-2 Inv-loop μ-loop
+returns-2 c = told (c .before .before .before)
+
+same-length-7 : tie.Need-same-length-7 Inv-loop μ-loop
+same-length-7 c = omega (arith, lengths (c .before .before .before .before .before), c .before .before .before .before .before .before .before .before .before .before .before .before .before .before .before .before .before .before .before .before .before .before .before .before .before .before .pre .0)
+
+same-length-8 : tie.Need-same-length-8 Inv-loop μ-loop
+same-length-8 c = search needs
+
+same-length-9 : tie.Need-same-length-9 Inv-loop μ-loop
+same-length-9 c = omega (arith, lengths (c .before .before .before .before .before), c .before .before .before .before .before .before .before .before .before .before .before .before .before .before .before .before .before .before .before .before .before .before .before .before .before .before .pre .1)
+
+returns-3 : tie.Need-returns-3 Inv-loop μ-loop
+returns-3 c = told (c .before .before .before .before .before)
+
+sub-turns : tie.Need-sub-turns Inv-loop μ-loop
+sub-turns c = search needs
+
+loop-less : tie.Need-loop-less Inv-loop μ-loop
+loop-less c = search needs
+
+loop-again : tie.Need-loop-again Inv-loop μ-loop
+loop-again c =
+    let h = c .before .before .before .before .before in
+    (turned h (omega arith), h .before .before .before .before .before .before .before .take-reading .ensures .1, lengths h .0, lengths h .1, lengths h .2)
+
+same-length-10 : tie.Need-same-length-10 Inv-loop μ-loop
+same-length-10 c = search needs
+
+same-length-11 : tie.Need-same-length-11 Inv-loop μ-loop
+same-length-11 c = search needs
+
+same-length-12 : tie.Need-same-length-12 Inv-loop μ-loop
+same-length-12 c = search needs
+
+returns-4 : tie.Need-returns-4 Inv-loop μ-loop
+returns-4 c = input-stopped (c .before .loop .inv .0)
+
+pub follow-spec : {M : Type 1} → statement M
+follow-spec =
+    tie.close
+    (tie.spec
+    Inv-loop
+    μ-loop
+    loop-holds
+    read-more-requires
+    slice-aggregate-write-all
+    write-all-requires
+    same-length
+    same-length-2
+    same-length-3
+    returns
+    take-reading-requires
+    slice-reshare-prefix-write-lines
+    slice-aggregate-write-lines
+    write-lines-requires
+    same-length-4
+    same-length-5
+    same-length-6
+    returns-2
+    same-length-7
+    same-length-8
+    same-length-9
+    returns-3
+    sub-turns
+    loop-less
+    loop-again
+    same-length-10
+    same-length-11
+    same-length-12
+    returns-4)
