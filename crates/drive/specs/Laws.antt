@@ -130,7 +130,7 @@ input-stopped {before} o = record {
 }
 
 -- where the input ends, all of it is
-pub input-ended : {before after waiting ys : List ℕ} {r s : Settings} → OfPieces before r after waiting → sheetHeld s ys ≡ inTurn (sheetHeld r after) (recordsOf waiting) → OfInput before s ys
+input-ended : {before after waiting ys : List ℕ} {r s : Settings} → OfPieces before r after waiting → sheetHeld s ys ≡ inTurn (sheetHeld r after) (recordsOf waiting) → OfInput before s ys
 input-ended {before} o e = record {
   input = join (o .pieces);
   leaves = e ∙ ap atEnd (o .leaves) ∙ pieces-in-turn (sheetHeld refused before) (o .pieces);
