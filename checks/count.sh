@@ -16,6 +16,18 @@ check() {
     fi
 }
 
+# tell MESSAGE COMMAND..: count it, and say the message only where the command fails
+tell() {
+    local message=$1
+    shift
+    if "$@"; then
+        passed=$((passed + 1))
+    else
+        failed=$((failed + 1))
+        echo "$message"
+    fi
+}
+
 # count LABEL COMMAND..: run a part and add its last line of the form 'N passed, M failed'; with no such line it counts as one check
 # A part that fails and tells no failure, or that counts nothing, is a failure.
 count() {

@@ -1,6 +1,7 @@
 # shellcheck shell=bash
 # Sourced from the repository's root: the kit's tools, the archive and the program, and both again for this machine.
-command -v rt >/dev/null || { echo "rt, the command of the Rattle kit, is not on the path" >&2 && exit 1; }
+. checks/tools.sh
+on_path "$0" rt || exit 1
 kit=$(dirname "$(dirname "$(readlink -f "$(command -v rt)")")")
 machine=$(uname -m)
 own=$kit/on/$machine

@@ -19,7 +19,28 @@
 
    A refusal writes the value place and nothing else: no cell of a sheet, no place of an output.
    The one exception is refused settings, which also write the record of zeros where seven places
-   are lent for it. */
+   are lent for it.
+
+   The sheet on a part. A call works on levels in memory; the caller reads them from the part and
+   programs the part after Done. A cell of b bits has the top level L = 2^b - 1.
+   - Which cells: those that stand lower on the part than in the new levels, each to its new level.
+     On a part that holds the sheet as it was before the call these are the cells that rose in it;
+     a copy that is a change behind lacks that change's cells too. Only erasing lowers a cell.
+   - A change that answers Done with the value 1 raised one cell by one level: a power cut leaves
+     the old sheet or the new one. Every plain change is so.
+   - A change of a staged sheet may raise several cells. Cut between two of them, the sheet may be
+     accepted with bits that are neither the old nor the new ones.
+   - An erase that is cut may leave an accepted sheet with other bits, of either kind. So erase no
+     sheet whose bits are needed, and read none before its erase has ended.
+   - In which order: first the index blocks that do not end full (a cell of them is below L after
+     the change), then the cells of the m blocks, then the index blocks that end full. Index block
+     j, from 0, has the w cells from m * k + j * w on. Cut then, most changes read as old, as new
+     or as BadSheet; but not all, and for some no order does.
+   - What is right for every change: two copies of the sheet, written in turn, never the only good
+     one, and a note outside both, which of them that is. examples/barge.c does so in a file;
+     docs/RULES.md says what to do with cells, and how often a cut misreads.
+   - Settings are not on the sheet. Keep kind, k, L and n with it: with others the same cells may
+     be accepted and give other bits. */
 #ifndef HARPGINGER_H
 #define HARPGINGER_H
 

@@ -6,6 +6,7 @@ pub mod adversary;
 pub mod bits;
 pub mod compiled;
 pub mod count;
+pub mod cuts;
 pub mod endurance;
 pub mod files;
 pub mod forms;

@@ -3,40 +3,47 @@
 use crate::measured::Measured;
 use crate::places::kind_name;
 use crate::table::grouped;
+use second::svg::{width, Font, Svg, BLUE, GREEN, INK, ORANGE, PALE, VERMILION};
 use second::Settings;
-use std::fmt::Write;
 
 const WIDTH: usize = 960;
 /// Where the first panel begins, how wide a panel is, and the room between both.
-const LEFT: usize = 150;
-const PANEL: usize = 360;
-const GAP: usize = 60;
+const LEFT: f64 = 150.0;
+const PANEL: f64 = 360.0;
+const GAP: f64 = 60.0;
 /// Where the rows begin, and how high a row and one of its bars are.
-const TOP: usize = 100;
-const ROW: usize = 62;
-const BAR: usize = 11;
+const TOP: f64 = 100.0;
+const ROW: f64 = 84.0;
+const BAR: f64 = 16.0;
+/// The size of a bar's count.
+const COUNT: f64 = 11.0;
 
-/// A row's bars: name, colour and count.
-type Bar = (&'static str, &'static str, fn(&Measured) -> u64);
+/// A row's bars: name, colour, the colour of words on it, and count.
+type Bar = (
+    &'static str,
+    &'static str,
+    &'static str,
+    fn(&Measured) -> u64,
+);
 
 const BARS: [Bar; 4] = [
-    ("guarantee", "#0072b2", |measured| measured.guarantee),
-    ("adversary", "#d55e00", |measured| measured.adversary),
-    ("random bits", "#009e73", |measured| measured.random),
-    ("one bit", "#e69f00", |measured| measured.one_bit),
+    ("guarantee", BLUE, "#ffffff", |measured| measured.guarantee),
+    ("adversary", VERMILION, "#000000", |measured| {
+        measured.adversary
+    }),
+    ("random bits", GREEN, "#000000", |measured| measured.random),
+    ("one bit", ORANGE, "#000000", |measured| measured.one_bit),
 ];
 
 /// Draws all that was measured.
 pub fn draw(all: &[Measured]) -> String {
     let shapes = shapes(all);
-    let bottom = TOP + ROW * shapes.len();
-    let height = bottom + 62;
-    let mut svg = String::new();
-    put(
-        &mut svg,
-        "<!-- Endurance of plain and staged sheets, drawn by bench/src/picture.rs. -->".into(),
+    let bottom = TOP + ROW * shapes.len() as f64;
+    let mut svg = Svg::new(
+        "Endurance of plain and staged sheets, drawn by bench/src/picture.rs.",
+        "Endurance of plain and staged sheets",
+        [WIDTH, bottom as usize + 62],
     );
-    start(&mut svg, height);
     legend(&mut svg);
     for kind in [0, 1] {
         axis(&mut svg, kind, bottom);
@@ -50,11 +57,10 @@ pub fn draw(all: &[Measured]) -> String {
             bars(&mut svg, row, kind, all.iter().find(is_it));
         }
     }
-    let middle = LEFT + PANEL + GAP / 2;
+    let middle = LEFT + PANEL + GAP / 2.0;
     let words = "changes accepted from an erased sheet to the first Erase, as a share of n L";
-    text(&mut svg, [middle, height - 16], "middle", words);
-    svg.push_str("</svg>\n");
-    svg
+    svg.text([middle, bottom + 46.0], &Font::MIDDLE, words);
+    svg.finish()
 }
 
 /// The shapes in the order of the file, each once.
@@ -69,129 +75,87 @@ fn shape_of(measured: &Measured) -> [usize; 3] {
     [k, top, n]
 }
 
-/// The sheet of paper: it has a ground of its own, so that a dark page does not swallow the text.
-fn start(svg: &mut String, height: usize) {
-    let size = format!("width=\"{WIDTH}\" height=\"{height}\"");
-    let font = "font-family=\"sans-serif\" font-size=\"13\" fill=\"#222222\"";
-    put(svg, format!("<svg xmlns=\"http://www.w3.org/2000/svg\" {size} viewBox=\"0 0 {WIDTH} {height}\" {font}>"));
-    put(
-        svg,
-        "<title>Endurance of plain and staged sheets</title>".into(),
-    );
-    let frame = "rx=\"8\" fill=\"#ffffff\" stroke=\"#cccccc\"";
-    put(
-        svg,
-        format!(
-            "<rect x=\"0.5\" y=\"0.5\" width=\"{}\" height=\"{}\" {frame}/>",
-            WIDTH - 1,
-            height - 1
-        ),
-    );
-}
-
 /// What each colour and the line mean.
-fn legend(svg: &mut String) {
+fn legend(svg: &mut Svg) {
     let mut x = LEFT;
-    for (name, colour, _) in BARS {
-        put(
-            svg,
-            format!("<rect x=\"{x}\" y=\"22\" width=\"14\" height=\"14\" fill=\"{colour}\"/>"),
-        );
-        text(svg, [x + 20, 34], "start", name);
-        x += 56 + 8 * name.len();
+    for (name, colour, _, _) in BARS {
+        svg.rect([x, 22.0, 14.0, 14.0], &format!("fill=\"{colour}\""));
+        svg.text([x + 20.0, 34.0], &Font::START, name);
+        x += (56 + 8 * name.len()) as f64;
     }
-    line(svg, [x + 7, 20, x + 7, 38], LIMIT);
-    text(
-        svg,
-        [x + 20, 34],
-        "start",
-        "limit of what any code can guarantee",
-    );
+    svg.line([x + 7.0, 20.0, x + 7.0, 38.0], LIMIT);
+    let words = "limit of what any code can guarantee";
+    svg.text([x + 20.0, 34.0], &Font::START, words);
 }
 
 const LIMIT: &str = "stroke=\"#000000\" stroke-width=\"2.5\"";
-const GRID: &str = "stroke=\"#dddddd\" stroke-width=\"1\"";
 
 /// A panel's name, its lines and their shares.
-fn axis(svg: &mut String, kind: usize, bottom: usize) {
+fn axis(svg: &mut Svg, kind: usize, bottom: f64) {
     let x = panel(kind);
-    let title = format!(
-        "<text x=\"{x}\" y=\"70\" font-size=\"15\" font-weight=\"bold\">{}</text>",
-        kind_name(kind)
-    );
-    put(svg, title);
+    let title = Font::START.size(15.0).bold();
+    svg.text([x, 70.0], &title, kind_name(kind));
     for percent in (0..=100).step_by(20) {
-        let at = x + PANEL * percent / 100;
-        line(svg, [at, TOP - 14, at, bottom], GRID);
-        text(svg, [at, bottom + 18], "middle", &format!("{percent}%"));
+        let at = x + PANEL * f64::from(percent) / 100.0;
+        let style = format!("stroke=\"{PALE}\" stroke-width=\"1\"");
+        svg.line([at, TOP - 14.0, at, bottom], &style);
+        svg.text([at, bottom + 18.0], &Font::MIDDLE, &format!("{percent}%"));
     }
+}
+
+/// Where a row begins.
+fn row_top(row: usize) -> f64 {
+    TOP + ROW * row as f64
 }
 
 /// A row's settings.
-fn label(svg: &mut String, row: usize, [k, top, n]: &[usize; 3]) {
-    let y = TOP + ROW * row;
-    text(
-        svg,
-        [LEFT - 16, y + 18],
-        "end",
-        &format!("k = {k}, L = {top}"),
-    );
-    text(
-        svg,
-        [LEFT - 16, y + 35],
-        "end",
-        &format!("n = {}", grouped(*n as u64)),
-    );
+fn label(svg: &mut Svg, row: usize, [k, top, n]: &[usize; 3]) {
+    let (x, y) = (LEFT - 16.0, row_top(row));
+    svg.text([x, y + 28.0], &Font::END, &format!("k = {k}, L = {top}"));
+    let cells = format!("n = {}", grouped(*n as u64));
+    svg.text([x, y + 45.0], &Font::END, &cells);
 }
 
 /// A row's bars in one panel, and the line of the limit over them.
-fn bars(svg: &mut String, row: usize, kind: usize, measured: Option<&Measured>) {
-    let (x, y) = (panel(kind), TOP + ROW * row);
+fn bars(svg: &mut Svg, row: usize, kind: usize, measured: Option<&Measured>) {
+    let (x, y) = (panel(kind), row_top(row));
     let Some(measured) = measured else {
-        return text(svg, [x + 8, y + 27], "start", "not accepted for this kind");
+        let at = [x + 8.0, y + 37.0];
+        return svg.text(at, &Font::START, "not accepted for this kind");
     };
-    let share = |count: u64| count as f64 / measured.levels as f64;
-    for (place, (name, colour, count)) in BARS.iter().enumerate() {
-        let (top, count) = (y + BAR * place, count(measured));
-        let width = PANEL as f64 * share(count);
-        let tip = format!(
-            "<title>{name}: {} ({:.1}%)</title>",
-            grouped(count),
-            100.0 * share(count)
-        );
-        let at = format!(
-            "x=\"{x}\" y=\"{top}\" width=\"{width:.1}\" height=\"{}\"",
-            BAR - 1
-        );
-        put(svg, format!("<rect {at} fill=\"{colour}\">{tip}</rect>"));
+    let limit = x + PANEL * share(measured, measured.limit);
+    for (place, bar) in BARS.iter().enumerate() {
+        one_bar(svg, [x, y + BAR * place as f64], limit, measured, bar);
     }
-    let at = x as f64 + PANEL as f64 * share(measured.limit);
-    let (first, last) = (y - 4, y + BAR * BARS.len() + 3);
-    put(
-        svg,
-        format!("<line x1=\"{at:.1}\" y1=\"{first}\" x2=\"{at:.1}\" y2=\"{last}\" {LIMIT}/>"),
-    );
+    let last = y + BAR * BARS.len() as f64 + 3.0;
+    svg.line([limit, y - 4.0, limit, last], LIMIT);
+}
+
+fn share(measured: &Measured, count: u64) -> f64 {
+    count as f64 / measured.levels as f64
+}
+
+/// A bar with its count at its end, or before the limit's line where the bar goes past it.
+fn one_bar(svg: &mut Svg, [x, y]: [f64; 2], limit: f64, measured: &Measured, bar: &Bar) {
+    let (name, colour, words, count) = bar;
+    let count = count(measured);
+    let share = share(measured, count);
+    let long = PANEL * share;
+    let told = format!("{} ({:.2}%)", grouped(count), 100.0 * share);
+    let at = [x, y, long, BAR - 1.0];
+    let style = format!("fill=\"{colour}\"");
+    svg.told_rect(at, &style, &format!("{name}: {told}"));
+    let end = (x + long).min(limit) - 5.0;
+    let baseline = y + BAR - 4.0;
+    let fits = width(&told, COUNT) + 4.0 < end - x;
+    let (place, font) = match fits {
+        true => (end, Font::END.colour(words)),
+        false => ((x + long).max(limit) + 5.0, Font::START.colour(INK)),
+    };
+    svg.text([place, baseline], &font.size(COUNT), &told);
 }
 
 /// Where a kind's panel begins.
-fn panel(kind: usize) -> usize {
-    LEFT + kind * (PANEL + GAP)
-}
-
-fn line(svg: &mut String, [x1, y1, x2, y2]: [usize; 4], style: &str) {
-    put(
-        svg,
-        format!("<line x1=\"{x1}\" y1=\"{y1}\" x2=\"{x2}\" y2=\"{y2}\" {style}/>"),
-    );
-}
-
-fn text(svg: &mut String, [x, y]: [usize; 2], anchor: &str, words: &str) {
-    put(
-        svg,
-        format!("<text x=\"{x}\" y=\"{y}\" text-anchor=\"{anchor}\">{words}</text>"),
-    );
-}
-
-fn put(svg: &mut String, element: String) {
-    writeln!(svg, "{element}").expect("a string takes any text");
+fn panel(kind: usize) -> f64 {
+    LEFT + kind as f64 * (PANEL + GAP)
 }

@@ -25,6 +25,29 @@
 //! The crate is `no_std`. The feature `alloc`, which is on unless it is turned off, adds the bits
 //! of a sheet as a `Vec`. Nothing is kept between calls, so sheets are independent, on any thread.
 //!
+//! # The sheet on a part
+//!
+//! The cells are levels in memory: the caller reads them from the part, and after a change programs
+//! the cells that stand lower on the part than here, each to its new level. A change that raised
+//! one level raised one cell, so a power cut leaves the old sheet or the new one; every plain change
+//! is so. A change of a staged sheet may raise several cells, and a sheet that is cut between two of
+//! them can be accepted with bits that are neither the old nor the new ones; so can one whose erase
+//! is cut, of either kind. What is right for every change is two copies of the sheet, written in
+//! turn, and a note outside both, which is the good one: the example `barge` keeps them in a file.
+//!
+//! A sheet does not carry its settings. With others the same cells may be accepted, and give other
+//! bits, so keep kind, bits, top level and cells with it:
+//!
+//! ```
+//! use harpginger::{Error, Kind, Settings, View};
+//!
+//! let cells = [0, 2, 1, 0, 0, 0, 0, 0, 0, 0, 0, 0, 0, 0, 0, 0];
+//! let held = |pens, pen| View::over(Settings::accept(Kind::Plain, pens, 2, 16)?, &cells).bit(pen);
+//! assert_eq!((held(4, 0)?, held(4, 1)?), (false, true));
+//! assert_eq!((held(2, 0)?, held(2, 1)?), (true, false));
+//! # Ok::<(), Error>(())
+//! ```
+//!
 //! # Linking
 //!
 //! The library is the archive `libharpginger.a`. In the repository `checks/native` writes it for

@@ -9,10 +9,12 @@
 pub mod compare;
 pub mod drive;
 mod flaw;
+pub mod pictures;
 mod plain;
 pub mod random;
 pub mod sheets;
 mod staged;
+pub mod svg;
 
 pub use flaw::Flaw;
 use plain::Whole;

@@ -8,6 +8,7 @@ pub mod Storage
 pub mod Batches
 pub mod Change
 pub mod OneCell
+pub mod Torn
 pub mod Place
 pub mod Run
 pub mod OneOutcome

@@ -1,0 +1,129 @@
+//! The worked numbers of docs/RULES.md, computed again.
+
+mod common;
+
+use common::{accept, bits, cells, checked_change, sum};
+use second::{read, Answer, Settings};
+
+const PAGE: &str = concat!(env!("CARGO_MANIFEST_DIR"), "/../docs/RULES.md");
+
+/// The rows of the one table whose head begins so.
+fn rows(head: &str) -> Vec<Vec<String>> {
+    let page = std::fs::read_to_string(PAGE).unwrap();
+    let lines: Vec<&str> = page.lines().collect();
+    let heads: Vec<usize> = (0..lines.len())
+        .filter(|&place| lines[place].starts_with(head))
+        .collect();
+    assert_eq!(heads.len(), 1, "{head}");
+    let first = heads[0] + 2;
+    let table = lines[first..]
+        .iter()
+        .take_while(|line| line.starts_with('|'));
+    let columns = |line: &&str| {
+        let inner = line.trim_matches('|');
+        inner
+            .split('|')
+            .map(|cell| cell.trim().to_string())
+            .collect()
+    };
+    table.map(columns).collect()
+}
+
+fn number(cell: &str) -> u64 {
+    cell.parse().unwrap_or_else(|_| panic!("no number: {cell}"))
+}
+
+#[test]
+fn settings() {
+    let rows = rows("| Kind | k | L | n | m |");
+    assert_eq!(rows.len(), 13);
+    for row in rows {
+        let kind = ["plain", "staged"]
+            .iter()
+            .position(|name| *name == row[0])
+            .unwrap();
+        let [k, top, n] = [&row[1], &row[2], &row[3]].map(|cell| number(cell));
+        let (answer, record) = Settings::accept(kind as u64, k, top, n);
+        if row[4] == "-" {
+            assert_eq!((answer, record), (Answer::BadShape, Settings::default()));
+            continue;
+        }
+        let Settings { k, m, s, w, .. } = record;
+        let index_cells = 2 * (k - 1) * s.saturating_sub(1) * w;
+        let found = [m, s, w, index_cells].map(|number| number as u64);
+        let told: Vec<u64> = row[4..].iter().map(|cell| number(cell)).collect();
+        assert_eq!(told[..4], found, "{row:?}");
+        assert_eq!(answer, Answer::Done(told[4]), "{row:?}");
+    }
+}
+
+#[test]
+fn answers() {
+    let rows = rows("| No. | **Answer** |");
+    let answers = [
+        Answer::Done(0),
+        Answer::BadShape,
+        Answer::BadLength,
+        Answer::ShortOutput,
+        Answer::BadBit,
+        Answer::BadLevel(0),
+        Answer::BadSheet,
+        Answer::Erase,
+        Answer::BadRecord,
+    ];
+    assert_eq!(rows.len(), answers.len());
+    for (row, answer) in rows.iter().zip(answers) {
+        assert_eq!(number(&row[0]), answer.number());
+        assert_eq!(format!("{answer:?}").trim_end_matches("(0)"), row[1]);
+    }
+}
+
+#[test]
+fn blocks() {
+    let settings = accept(0, 4, 2, 16);
+    let rows = rows("| Block | Bit | Weight |");
+    assert_eq!(rows.len(), 8);
+    for row in rows {
+        let mut sheet = cells(&format!("{} 0000 0000 0000", row[0]));
+        if row[1] == "BadSheet" {
+            assert_eq!(read(&settings, &sheet, &mut [0; 4]), Answer::BadSheet);
+            continue;
+        }
+        let (bit, value) = (number(&row[1]) as usize, number(&row[3]));
+        let mut expected = vec![0; 4];
+        expected[bit] = value as u8;
+        assert_eq!(bits(&settings, &sheet), expected, "{row:?}");
+        assert_eq!(sum(&sheet), number(&row[2]), "{row:?}");
+        assert_eq!(checked_change(&settings, &mut sheet, bit), Answer::Done(1));
+        assert_eq!(sheet[..4], cells(&row[4]), "{row:?}");
+    }
+}
+
+/// A row of the move's table: levels, bits, sum and what is still certain after so many changes.
+fn check_moment(settings: &Settings, sheet: &[u8], made: u64, row: &[String]) {
+    assert_eq!(sheet, cells(&format!("{} {}", row[1], row[2])), "{row:?}");
+    assert_eq!(bits(settings, sheet), cells(&row[4]), "{row:?}");
+    assert_eq!(sum(sheet), number(&row[5]), "{row:?}");
+    assert_eq!(settings.guarantee() - made, number(&row[6]), "{row:?}");
+}
+
+#[test]
+fn the_move() {
+    let settings = accept(1, 4, 2, 28);
+    let rows = rows("| Change | Blocks | Batch 1 |");
+    assert_eq!((rows.len(), rows[0][0].as_str()), (6, "before"));
+    let mut sheet = vec![0; 28];
+    let first = [0, 1, 2, 3, 3, 3, 3, 3, 3, 3, 3];
+    for bit in first {
+        assert_eq!(checked_change(&settings, &mut sheet, bit), Answer::Done(1));
+    }
+    let mut made = first.len() as u64;
+    check_moment(&settings, &sheet, made, &rows[0]);
+    for row in &rows[1..] {
+        let bit = number(row[0].strip_prefix("bit ").unwrap()) as usize;
+        let answer = checked_change(&settings, &mut sheet, bit);
+        assert_eq!(answer, Answer::Done(number(&row[3])), "{row:?}");
+        made += 1;
+        check_moment(&settings, &sheet, made, row);
+    }
+}
