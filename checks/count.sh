@@ -28,6 +28,11 @@ tell() {
     fi
 }
 
+# note WORDS..: a check that is not run here, and why
+note() {
+    echo "left out: $*"
+}
+
 # count LABEL COMMAND..: run a part and add its last line of the form 'N passed, M failed'; with no such line it counts as one check
 # A part that fails and tells no failure, or that counts nothing, is a failure.
 count() {

@@ -7,8 +7,8 @@
    nothing reads. Numbers are little endian.
 
       at  bytes  what a copy has there
-       0      1  mark: 60 while it is being written, 165 once it is whole; any other is damage,
-                 0 and 255 too, as a lost sector may read
+       0      1  mark: 60 while it is being written, 165 once it is whole; any other is damage:
+                 90 while it is being mended, 0 and 255 as a lost sector may read
        1      4  CRC-32 of all that follows in this copy, the cells too
        5      7  HGBARGE
       12      2  number of this format: 1
@@ -43,7 +43,7 @@
 
 enum place { MARK = 0, SUM = 1, MAGIC = 5, FORMAT = 12, VERSION = 14, KIND = 16, TOP = 17, PENS = 18, CELLS = 20,
              SAVES = 24, CHANGES = 32, ERASES = 40, HEAD = 48, MOST = HEAD + HARPGINGER_MOST_CELLS };
-enum mark { WRITING = 60, MENDING = 90, WHOLE = 165 }; /* four bits from each other, and from 0 and 255 */
+enum mark { WRITING = 60, MENDING = 90, WHOLE = 165 }; /* four bits or more from each other, and from 0 and 255 */
 enum state { UNFINISHED, SOUND, DAMAGED, UNKNOWN };
 enum command { NEW, HOLD, RELEASE, SHOW, MEND, COMMANDS };
 enum { REFUSED = 1, BAD_WORDS = 2, THIS_FORMAT = 1, SECOND = 131072, MOST_NAMES = 1000 };
@@ -198,7 +198,8 @@ static int load(struct barge *barge, int mending) {
 static int written(int file, const uint8_t *bytes, size_t count, size_t at) {
     while (count > 0) {
         ssize_t done = pwrite(file, bytes, count, (off_t)at);
-        if (done < 0 && errno != EINTR) return 0;
+        if (done == 0) errno = EIO;
+        if (done == 0 || (done < 0 && errno != EINTR)) return 0;
         if (done > 0) bytes += done, at += (size_t)done, count -= (size_t)done;
     }
     return 1;
@@ -213,7 +214,8 @@ static int save(struct barge *barge, enum mark meanwhile) {
     if (!written(barge->file, &mark, 1, at) || fsync(barge->file) != 0 ||
         !written(barge->file, copy + 1, barge->length - 1, at + 1) || fsync(barge->file) != 0 ||
         !written(barge->file, copy, 1, at) || fsync(barge->file) != 0)
-        return failed(barge->name, "cannot be written, so this may not be done; see what show says");
+        return failed(barge->name, "cannot be written: this may not be done, and a power cut "
+                      "may undo what show says; see to the pen by hand");
     return 0;
 }
 
@@ -303,7 +305,8 @@ static int open_fresh(const char *name, char *fresh) {
 }
 
 /* Makes the file of these two copies, whole or not at all. By link, since a rename replaces a file that is there.
-   No file is written or removed that this run has not made: one that a cut has left stays, and harms nothing. */
+   No file is written or removed that this run has not made: one that a cut has left stays.
+   It may be a second name of the file itself: whoever removes it does no harm, whoever writes to it does. */
 static int place(const char *name, const uint8_t *first, const uint8_t *second, size_t length) {
     char fresh[4096], folder[4096], *slash;
     int file, whole, error, within;
@@ -360,14 +363,16 @@ static int make(const char *name, char **words) {
     return 0;
 }
 
-/* Opens the file for this program alone, until it ends: another one waits here. What is no file is not opened. */
+/* Opens the file, until this program ends for it alone or for those that only read: another waits here.
+   What is no file is not opened. */
 static int open_alone(struct barge *barge, const char *name, int writing) {
     struct stat found;
     barge->name = name;
     if (stat(name, &found) != 0) return failed(name, "cannot be opened; new makes it where there is none");
     if (!S_ISREG(found.st_mode)) return say(REFUSED, "%s: no regular file: take another name", name);
     barge->file = open(name, writing ? O_RDWR : O_RDONLY);
-    if (barge->file < 0 || flock(barge->file, LOCK_EX) != 0) return failed(name, "cannot be opened");
+    if (barge->file < 0 || flock(barge->file, writing ? LOCK_EX : LOCK_SH) != 0)
+        return failed(name, "cannot be opened");
     return 0;
 }
 

@@ -27,9 +27,10 @@
      On a part that holds the sheet as it was before the call these are the cells that rose in it;
      a copy that is a change behind lacks that change's cells too. Only erasing lowers a cell.
    - A change that answers Done with the value 1 raised one cell by one level: a power cut leaves
-     the old sheet or the new one. Every plain change is so.
-   - A change of a staged sheet may raise several cells. Cut between two of them, the sheet may be
-     accepted with bits that are neither the old nor the new ones.
+     the old sheet or the new one, on a part where it leaves each cell at a level from its old one
+     to its new one. Every plain change is so.
+   - A change of a staged sheet may raise several cells, or one cell by several levels. Cut on the
+     way, the sheet may be accepted with bits that are neither the old nor the new ones.
    - An erase that is cut may leave an accepted sheet with other bits, of either kind. So erase no
      sheet whose bits are needed, and read none before its erase has ended.
    - In which order: first the index blocks that do not end full (a cell of them is below L after
@@ -37,7 +38,7 @@
      j, from 0, has the w cells from m * k + j * w on. Cut then, most changes read as old, as new
      or as BadSheet; but not all, and for some no order does.
    - What is right for every change: two copies of the sheet, written in turn, never the only good
-     one, and a note outside both, which of them that is. examples/barge.c does so in a file;
+     one, and a note outside both that says which one that is. examples/barge.c does so in a file;
      docs/RULES.md says what to do with cells, and how often a cut misreads.
    - Settings are not on the sheet. Keep kind, k, L and n with it: with others the same cells may
      be accepted and give other bits. */

@@ -34,7 +34,8 @@ const NO_SUCH_SHEET: &str =
                              cells and 4, 8, 16, 32 or 64 pens";
 const NOT_THERE: &str = "cannot be opened; new makes it where there is none";
 const NOT_PRINTED: &str = "the output cannot be written; see what show says";
-const NOT_WRITTEN: &str = "cannot be written, so this may not be done; see what show says";
+const NOT_WRITTEN: &str = "cannot be written: this may not be done, and a power cut \
+                           may undo what show says; see to the pen by hand";
 
 const MAGIC: &[u8; 7] = b"HGBARGE";
 const FORMAT: u64 = 1;
@@ -43,7 +44,7 @@ const HEAD: usize = 48;
 /// Where the second copy begins: no usual sector or page has bytes of both.
 const SECOND: u64 = 131_072;
 
-/// The mark of a copy that is being written, that is being mended, and that is whole: four bits
+/// The mark of a copy that is being written, that is being mended, and that is whole: four bits or more
 /// from each other, and from 0 and 255, as a lost sector may read.
 const WRITING: u8 = 60;
 const MENDING: u8 = 90;
@@ -235,8 +236,11 @@ fn choose(copies: [Copy; 2], mending: bool) -> Done<(u8, Kept)> {
 
 /// Waits until no other program has this file, and keeps it until the handle is dropped.
 #[clippy::msrv = "1.89"] // of File::lock; the crate itself needs less
-fn alone(file: File) -> io::Result<File> {
-    file.lock()?;
+fn alone(file: File, writing: bool) -> io::Result<File> {
+    match writing {
+        true => file.lock()?,
+        false => file.lock_shared()?,
+    }
     Ok(file)
 }
 
@@ -248,15 +252,16 @@ struct Barge {
 }
 
 impl Barge {
-    /// Opens the file for this program alone and reads both copies, once all of it is on the disk:
-    /// a program that was ended before its last sync has left what is there to read, and a power
-    /// cut could still undo. What is no file is not opened.
+    /// Opens the file, for this program alone or for those that only read, and reads both copies,
+    /// once all of it is on the disk: a program that was ended before its last sync has left what
+    /// is there to read, and a power cut could still undo. What is no file is not opened.
     fn open(path: &Path, writing: bool, mending: bool) -> Done<Barge> {
         if !fs::metadata(path).map_err(failed(NOT_THERE))?.is_file() {
             return refused("no regular file: take another name");
         }
         let opened = OpenOptions::new().read(true).write(writing).open(path);
-        let file = opened.and_then(alone).map_err(failed("cannot be opened"))?;
+        let locked = opened.and_then(|file| alone(file, writing));
+        let file = locked.map_err(failed("cannot be opened"))?;
         let found = file.sync_all().and_then(|()| file.metadata());
         let length = found.map_err(failed("cannot be read"))?.len();
         let length = length.saturating_sub(SECOND);
@@ -350,7 +355,8 @@ fn fresh(path: &Path) -> Done<(File, PathBuf)> {
 
 /// Makes the file of these two copies, whole or not at all. By link, since a rename replaces a file
 /// that is there. No file is written or removed that this run has not made: one that a cut has left
-/// stays, and harms nothing.
+/// stays. It may be a second name of the file itself: whoever removes it does no harm, whoever
+/// writes to it does.
 fn place(path: &Path, first: &[u8], second: &[u8]) -> Done<()> {
     if path.exists() {
         return refused("there is one already: take another name");

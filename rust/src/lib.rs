@@ -30,10 +30,11 @@
 //! The cells are levels in memory: the caller reads them from the part, and after a change programs
 //! the cells that stand lower on the part than here, each to its new level. A change that raised
 //! one level raised one cell, so a power cut leaves the old sheet or the new one; every plain change
-//! is so. A change of a staged sheet may raise several cells, and a sheet that is cut between two of
+//! is so. A change of a staged sheet may raise several levels, and a sheet that is cut between two of
 //! them can be accepted with bits that are neither the old nor the new ones; so can one whose erase
 //! is cut, of either kind. What is right for every change is two copies of the sheet, written in
-//! turn, and a note outside both, which is the good one: the example `barge` keeps them in a file.
+//! turn, and a note outside both that says which is the good one: the example `barge` keeps them in
+//! a file.
 //!
 //! A sheet does not carry its settings. With others the same cells may be accepted, and give other
 //! bits, so keep kind, bits, top level and cells with it:

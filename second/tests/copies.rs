@@ -1,4 +1,4 @@
-//! Two copies of a sheet on a part, written in turn, with a note which of them is good: docs/RULES.md's way, cut at any pulse.
+//! Two copies of a sheet on a part, with a note that says which of them is good: docs/RULES.md's ways, cut at any pulse.
 
 mod common;
 
@@ -35,10 +35,10 @@ impl Part {
         (answer.number() == 0).then_some(bits)
     }
 
-    /// One pulse: a cell of the copy that is not good goes up a level, or is erased.
-    fn pulse(&mut self, cell: usize, erase: bool) -> Result<(), Cut> {
+    /// One pulse: a cell of a copy goes up a level, or is erased.
+    fn pulse(&mut self, copy: usize, cell: usize, erase: bool) -> Result<(), Cut> {
         self.left = self.left.checked_sub(1).ok_or(Cut)?;
-        let level = &mut self.copies[1 - self.good][cell];
+        let level = &mut self.copies[copy][cell];
         *level = if erase { 0 } else { *level + 1 };
         Ok(())
     }
@@ -57,22 +57,35 @@ impl Part {
         sheet
     }
 
-    /// Writes the copy that is not good, and then moves the note.
+    /// Whether a cell of the copy would have to fall.
+    fn above(&self, copy: usize, new: &[u8]) -> bool {
+        let mut pairs = self.copies[copy].iter().zip(new);
+        pairs.any(|(old, new)| old > new)
+    }
+
+    /// Which copy is written: of a plain sheet the good one, unless it was Erase.
+    fn written(&self, new: &[u8]) -> usize {
+        match self.settings.kind == 0 && !self.above(self.good, new) {
+            true => self.good,
+            false => 1 - self.good,
+        }
+    }
+
+    /// Writes a copy, and then moves the note there.
     fn write(&mut self, new: &[u8]) -> Result<(), Cut> {
-        let other = 1 - self.good;
-        let higher = |cell: usize| self.copies[other][cell] > new[cell];
-        if (0..new.len()).any(higher) {
+        let copy = self.written(new);
+        if self.above(copy, new) {
             for cell in 0..new.len() {
-                self.pulse(cell, true)?;
+                self.pulse(copy, cell, true)?;
             }
         }
         for (cell, &level) in new.iter().enumerate() {
-            while self.copies[other][cell] < level {
-                self.pulse(cell, false)?;
+            while self.copies[copy][cell] < level {
+                self.pulse(copy, cell, false)?;
             }
         }
-        assert_eq!(self.copies[other], new, "it is read back");
-        self.good = other;
+        assert_eq!(self.copies[copy], new, "it is read back");
+        self.good = copy;
         Ok(())
     }
 }
