@@ -127,3 +127,45 @@ fn the_move() {
         check_moment(&settings, &sheet, made, row);
     }
 }
+
+/// A plain sheet and a staged one at stage 0 whose first blocks are these, and the rest 0.
+fn sheets(blocks: &str) -> [(Settings, Vec<u8>); 2] {
+    [accept(0, 4, 2, 16), accept(1, 4, 2, 28)].map(|settings| {
+        let mut sheet = cells(blocks);
+        sheet.resize(settings.n, 0);
+        (settings, sheet)
+    })
+}
+
+/// The page has these words.
+fn says(words: &str) {
+    let page = std::fs::read_to_string(PAGE).unwrap();
+    assert!(page.contains(words), "{words}");
+}
+
+#[test]
+fn an_erase_that_is_cut() {
+    says("of 2221, with one cell erased, 0221 is left, and bit 0 is no longer 1 but bit 1 is");
+    for (settings, mut sheet) in sheets("2221") {
+        assert_eq!(bits(&settings, &sheet), [1, 0, 0, 0]);
+        sheet[0] = 0;
+        assert_eq!(sheet[..4], cells("0221"));
+        assert_eq!(bits(&settings, &sheet), [0, 1, 0, 0]);
+    }
+}
+
+/// On a plain sheet every change raises one level, so only one change could lead to a sheet with one level.
+#[test]
+fn an_accepted_sheet_with_no_past() {
+    says("with k = 4 and L = 2 the plain sheet 0000 1000 0000 0000 is accepted, and no run");
+    let [(settings, sheet), _] = sheets("0000 1000");
+    assert_eq!(
+        (bits(&settings, &sheet), sum(&sheet)),
+        (vec![1, 0, 0, 0], 1)
+    );
+    for bit in 0..settings.k {
+        let mut erased = vec![0; settings.n];
+        assert_eq!(checked_change(&settings, &mut erased, bit), Answer::Done(1));
+        assert_ne!(erased, sheet);
+    }
+}
