@@ -69,7 +69,7 @@ extern "C" {
 
 /* The version of this interface. It is one more whenever a function, an answer or a place of the
    record is added or means something else. */
-#define HARPGINGER_VERSION 2
+#define HARPGINGER_VERSION 3
 
 /* How many numbers a settings record has, and which stands where.
    Only harpginger_settings makes a record. Any other call answers BadShape to a record of another
@@ -94,7 +94,12 @@ enum harpginger_place {
 #define HARPGINGER_MOST_CELLS 16384
 
 /* What a call answers. Checks run in the order of these numbers, and the first refusal ends the
-   call. The value is 0 but for Done, where each call names it, and for BadLevel. */
+   call. The value is 0 but for Done, where each call names it, and for BadLevel.
+   BadSheet is answered to a plain sheet, and to a staged one at stage 0, if a block is neither
+   empty, full nor on a bit's cycle; if two active blocks have one bit; if an empty block stands
+   before one that isn't empty; if all k bits have active blocks and the last block that isn't empty
+   is full; or if a spare cell isn't 0. docs/RULES.md has the rules of later stages. Calls that ran
+   to their end never make such a sheet. */
 enum harpginger_answer {
     HARPGINGER_DONE = 0,         /* accepted */
     HARPGINGER_BAD_SHAPE = 1,    /* a setting outside the limits, or a record that is not genuine */

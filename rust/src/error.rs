@@ -30,7 +30,10 @@ pub enum Error {
     BadBit,
     /// A cell above the top level: the first such cell.
     BadLevel(usize),
-    /// The sheet breaks the rules of its kind.
+    /// The sheet breaks the rules of its kind. At stage 0, plain or staged: a block is neither
+    /// empty, full nor on a bit's cycle; two active blocks have one bit; an empty block stands
+    /// before one that isn't empty; all bits have active blocks and the last block that isn't empty
+    /// is full; or a spare cell isn't 0. Calls that ran to their end never make such a sheet.
     BadSheet,
     /// Change: there is no place for this bit before the sheet is erased.
     Erase,

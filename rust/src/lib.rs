@@ -89,13 +89,13 @@ pub use view::View;
 /// ```
 /// assert_eq!(harpginger::version(), harpginger::VERSION);
 /// ```
-pub const VERSION: u64 = 2;
+pub const VERSION: u64 = 3;
 
 /// The version of the C interface that the linked archive has. Another one than [`VERSION`] may
 /// give answers that this crate only knows as [`Error::Unknown`].
 ///
 /// ```
-/// assert_eq!(harpginger::version(), 2);
+/// assert_eq!(harpginger::version(), 3);
 /// ```
 #[must_use]
 pub fn version() -> u64 {

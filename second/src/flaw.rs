@@ -31,6 +31,20 @@ pub enum Flaw {
     DigitsLowFirst,
     /// A parity block's highest-numbered cell below the top level is raised.
     LastCellRaised,
+    /// Stage 0: blocks may stand in any order.
+    OrderIgnored,
+    /// Stage 0 of a staged sheet: blocks may stand in any order.
+    StagedOrderIgnored,
+    /// Stage 0: an empty block may stand before one that isn't empty.
+    HoleAccepted,
+    /// Stage 0: an empty block may stand before a full one, though not before an active one.
+    HoleBeforeFull,
+    /// Stage 0: the last block that isn't empty may be full where all k bits have active blocks.
+    FullLastAccepted,
+    /// Stage 0: block m - 1 alone may not be full where all k bits have active blocks.
+    LastByNumber,
+    /// Stage 0: the last block that isn't empty may never be full.
+    FullLastNever,
 }
 
 thread_local! {
@@ -39,7 +53,7 @@ thread_local! {
 
 impl Flaw {
     /// Every flaw, without `None`.
-    pub const ALL: [Flaw; 12] = [
+    pub const ALL: [Flaw; 19] = [
         Flaw::FirstRaisedStart,
         Flaw::OldBitsAtMove,
         Flaw::FreeBlockRead,
@@ -52,6 +66,13 @@ impl Flaw {
         Flaw::BitAfterLevel,
         Flaw::DigitsLowFirst,
         Flaw::LastCellRaised,
+        Flaw::OrderIgnored,
+        Flaw::StagedOrderIgnored,
+        Flaw::HoleAccepted,
+        Flaw::HoleBeforeFull,
+        Flaw::FullLastAccepted,
+        Flaw::LastByNumber,
+        Flaw::FullLastNever,
     ];
 
     /// Makes the calls of this thread run with this flaw alone.

@@ -19,7 +19,8 @@ enum Block {
 }
 
 impl Whole {
-    /// The m blocks, if each is empty, full or on a cycle, and no two active ones have one bit.
+    /// The m blocks, if each is empty, full or on a cycle, no two active ones have one bit, and
+    /// they stand in a right order.
     pub fn decode(settings: &Settings, sheet: &[u8]) -> Result<Whole, Answer> {
         let mut taken = vec![false; settings.k];
         let mut blocks = Vec::with_capacity(settings.m);
@@ -33,7 +34,48 @@ impl Whole {
             }
             blocks.push(block);
         }
-        Ok(Whole { blocks })
+        let whole = Whole { blocks };
+        match whole.is_in_order(settings) {
+            true => Ok(whole),
+            false => Err(Answer::BadSheet),
+        }
+    }
+
+    /// Whether neither rule about the order of blocks is broken.
+    fn is_in_order(&self, settings: &Settings) -> bool {
+        let staged = settings.kind == 1;
+        if Flaw::OrderIgnored.is_on() || (staged && Flaw::StagedOrderIgnored.is_on()) {
+            return true;
+        }
+        !self.has_hole() && !self.ends_full(settings.k)
+    }
+
+    /// The blocks that the two rules about their order go through.
+    fn in_order(&self) -> impl DoubleEndedIterator<Item = Block> + '_ {
+        self.blocks.iter().copied()
+    }
+
+    /// Whether an empty block stands before one that isn't empty.
+    fn has_hole(&self) -> bool {
+        let is_used = |block: Block| match Flaw::HoleBeforeFull.is_on() {
+            false => block != Block::Empty,
+            true => block.is_active(),
+        };
+        let mut blocks = self.in_order();
+        let empty = blocks.any(|block| block == Block::Empty);
+        empty && blocks.any(is_used) && !Flaw::HoleAccepted.is_on()
+    }
+
+    /// Whether all k bits have active blocks and the last block that isn't empty is full.
+    fn ends_full(&self, k: usize) -> bool {
+        let active = self.in_order().filter(|block| block.is_active()).count();
+        let mut from_the_end = self.in_order().rev();
+        let last = match Flaw::LastByNumber.is_on() {
+            false => from_the_end.find(|block| *block != Block::Empty),
+            true => from_the_end.next(),
+        };
+        let all_active = active == k || Flaw::FullLastNever.is_on();
+        all_active && last == Some(Block::Full) && !Flaw::FullLastAccepted.is_on()
     }
 
     /// Writes the parity of each bit that has an active block.
@@ -82,6 +124,10 @@ impl Whole {
 }
 
 impl Block {
+    fn is_active(self) -> bool {
+        matches!(self, Block::Active { .. })
+    }
+
     fn decode(top: usize, cells: &[u8]) -> Result<Block, Answer> {
         let weight = sum(cells) as usize;
         if weight == 0 {

@@ -1,8 +1,12 @@
 //! Settings, accepted sheets of every stage, and damaged ones, built directly and without the
 //! model's own decoding and encoding: also sheets that no run of changes reaches.
 
+mod damage;
+
 use crate::random::Random;
 use crate::Settings;
+
+pub use damage::Damage;
 
 /// Accepted settings of a kind (0 or 1), small ones and those at the limits more often.
 pub fn some_settings(random: &mut Random, kind: usize) -> Settings {
@@ -44,25 +48,73 @@ pub fn accepted(random: &mut Random, settings: &Settings, stage: usize) -> Vec<u
     sheet
 }
 
-/// Empty, full and active blocks in any order, the active ones with different bits.
-fn fill_whole(random: &mut Random, settings: &Settings, sheet: &mut [u8]) {
+/// What a block of k cells at stage 0 is.
+#[derive(Clone, Copy, Debug, PartialEq, Eq)]
+pub enum State {
+    /// All 0.
+    Empty,
+    /// The step of this weight of the cycle that starts at this cell.
+    Active(usize, usize),
+    /// All at the top level.
+    Full,
+}
+
+/// A sheet at stage 0 with these blocks, and empty ones after them.
+pub fn laid(settings: &Settings, blocks: &[State]) -> Vec<u8> {
+    let mut sheet = vec![0; settings.n];
+    lay(settings, blocks, &mut sheet);
+    sheet
+}
+
+/// Writes these blocks, and empty ones after them.
+fn lay(settings: &Settings, blocks: &[State], sheet: &mut [u8]) {
     let Settings { k, top, m, .. } = *settings;
-    let others = random.one_of(&[[0, 0], [0, top], [top, top], [top, top]]);
-    for block in sheet.chunks_exact_mut(k).take(m) {
-        block.fill(random.one_of(&others) as u8);
+    let all = blocks.iter().chain(std::iter::repeat(&State::Empty));
+    for (block, cells) in all.zip(sheet.chunks_exact_mut(k).take(m)) {
+        let (start, weight) = match *block {
+            State::Empty => (0, 0),
+            State::Active(start, weight) => (start, weight),
+            State::Full => (0, k * top),
+        };
+        for j in 0..k {
+            let level = weight.saturating_sub(j * top).min(top);
+            cells[(start + j) % k] = level as u8;
+        }
     }
+}
+
+/// Full and active blocks in any order, the active ones with different bits, then empty ones.
+/// Where all k bits have active blocks, the last block that isn't empty is one of them.
+fn fill_whole(random: &mut Random, settings: &Settings, sheet: &mut [u8]) {
+    let Settings { k, m, .. } = *settings;
     let (any, most) = (random.between(0, k), random.between(k / 2, k - 1));
     let count = random.one_of(&[0, k - 1, most, most, most, k, any]);
+    let (few, many) = (random.between(count, k), random.between(count, m));
+    let used = random.one_of(&[m, m, m, count, few, many, many]);
+    let mut places = random.choose(count, used);
+    if count == k {
+        places[k - 1] = used - 1;
+    }
+    let blocks = full_and_active(random, settings, used, &places);
+    lay(settings, &blocks, sheet);
+}
+
+/// So many full blocks, but active ones with different bits at these places.
+fn full_and_active(
+    random: &mut Random,
+    settings: &Settings,
+    used: usize,
+    places: &[usize],
+) -> Vec<State> {
+    let Settings { k, top, .. } = *settings;
     let style = random.below(5);
     let mut bits: Vec<usize> = (0..k).collect();
     random.shuffle(&mut bits);
-    for (block, start) in random.choose(count, m).into_iter().zip(bits) {
-        let weight = some_weight(random, k, top, style);
-        for j in 0..k {
-            let level = weight.saturating_sub(j * top).min(top);
-            sheet[block * k + (start + j) % k] = level as u8;
-        }
+    let mut blocks = vec![State::Full; used];
+    for (&place, bit) in places.iter().zip(bits) {
+        blocks[place] = State::Active(bit, some_weight(random, k, top, style));
     }
+    blocks
 }
 
 /// A weight of an active block: near either end, at a cell's end, past the middle, or any.
@@ -149,66 +201,5 @@ fn fill_lower(random: &mut Random, top: usize, batch: &mut [u8]) {
             1 => top,
             _ => random.between(0, top),
         } as u8;
-    }
-}
-
-/// What is done to a sheet to damage it.
-#[derive(Clone, Copy, Debug, PartialEq, Eq)]
-pub enum Damage {
-    /// One cell gets another level within 0 and the top level. The sheet may stay accepted.
-    Cell,
-    /// An index block's digits are copied over another of its batch. The sheet may stay accepted.
-    Index,
-    /// A spare cell is raised.
-    Spare,
-    /// One or two cells stand above the top level.
-    Level,
-    /// The sheet is too short or too long.
-    Length,
-}
-
-impl Damage {
-    /// Every damage.
-    pub const ALL: [Damage; 5] = [
-        Damage::Cell,
-        Damage::Index,
-        Damage::Spare,
-        Damage::Level,
-        Damage::Length,
-    ];
-
-    /// A damaged copy of a sheet of n cells, or None where the settings leave no room for it.
-    pub fn apply(self, random: &mut Random, settings: &Settings, sheet: &[u8]) -> Option<Vec<u8>> {
-        let Settings {
-            k, top, n, m, s, w, ..
-        } = *settings;
-        let mut sheet = sheet.to_vec();
-        match self {
-            Damage::Cell => {
-                let cell = random.below(n);
-                let another = usize::from(sheet[cell]) + random.between(1, top);
-                sheet[cell] = (another % (top + 1)) as u8;
-            }
-            Damage::Index if s > 0 => {
-                let batch = &mut sheet[settings.batch(random.between(1, s - 1))];
-                let (from, to) = (random.below(2 * (k - 1)), random.below(2 * (k - 1)));
-                batch.copy_within(from * w..(from + 1) * w, to * w);
-            }
-            Damage::Spare if m * k + settings.index_cells() < n => {
-                let cell = random.between(m * k + settings.index_cells(), n - 1);
-                sheet[cell] = random.between(1, top) as u8;
-            }
-            Damage::Level if top < 255 => {
-                for _ in 0..random.between(1, 2) {
-                    sheet[random.below(n)] = random.between(top + 1, 255) as u8;
-                }
-            }
-            Damage::Length => {
-                let (shorter, longer) = (random.below(n), random.between(n + 1, 2 * n));
-                sheet.resize(random.one_of(&[0, n - 1, n + 1, shorter, longer]), 0);
-            }
-            _ => return None,
-        }
-        Some(sheet)
     }
 }

@@ -30,7 +30,9 @@ fn every_flaw_and_impostor_is_told_apart() {
         check(&group);
         parts += 1;
     });
-    assert_eq!(parts, 1 + 12 + 11 + 8);
+    let in_the_program = 9;
+    let libraries = 1 + Flaw::ALL.len() + Impostor::ALL.len();
+    assert_eq!(parts, libraries + in_the_program);
 }
 
 #[test]

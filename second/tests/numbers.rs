@@ -26,11 +26,12 @@ fn answers_have_their_numbers_and_values() {
     assert_eq!(answers.map(Answer::value), [5, 0, 0, 0, 0, 6, 0, 0, 0]);
 }
 
-/// The block holds this bit and value, and its next step is the given one.
+/// The block holds this bit and value, and its next step is the given one, after full blocks too.
 fn check_block(block: &str, bit: usize, value: u8, next: &str) {
     let settings = accept(0, 4, 2, 16);
     for place in 0..4 {
         let mut sheet = vec![0; 16];
+        sheet[..4 * place].fill(2);
         sheet[4 * place..][..4].copy_from_slice(&cells(block));
         let mut expected = vec![0; 4];
         expected[bit] = value;
@@ -368,20 +369,38 @@ fn cycles(k: usize, top: u8) -> HashMap<Vec<u8>, Option<(usize, u8)>> {
     table
 }
 
+/// Whether an empty block stands before one that isn't, or the last that isn't empty is full and
+/// all bits have been found.
+fn breaks_order(blocks: &[&[u8]], top: u8, found: &[Option<u8>]) -> bool {
+    let all = |block: &[u8], level: u8| block.iter().all(|&cell| cell == level);
+    let used: Vec<usize> = (0..blocks.len())
+        .filter(|&place| !all(blocks[place], 0))
+        .collect();
+    let Some(&last) = used.last() else {
+        return false;
+    };
+    let all_found = found.iter().all(Option::is_some);
+    used.len() <= last || (all(blocks[last], top) && all_found)
+}
+
 /// The bits by the table, or None for a sheet that breaks the rules.
 fn bits_by_table(
     table: &HashMap<Vec<u8>, Option<(usize, u8)>>,
     settings: &Settings,
     sheet: &[u8],
 ) -> Option<Vec<u8>> {
-    let Settings { k, m, .. } = *settings;
+    let Settings { k, top, m, .. } = *settings;
     let mut found = vec![None; k];
-    for block in sheet[..m * k].chunks_exact(k) {
+    let blocks: Vec<&[u8]> = sheet[..m * k].chunks_exact(k).collect();
+    for &block in &blocks {
         if let Some((bit, value)) = *table.get(block)? {
             if found[bit].replace(value).is_some() {
                 return None;
             }
         }
+    }
+    if breaks_order(&blocks, top as u8, &found) {
+        return None;
     }
     let spare_is_0 = sheet[m * k..].iter().all(|&level| level == 0);
     spare_is_0.then(|| found.iter().map(|value| value.unwrap_or(0)).collect())
@@ -390,7 +409,7 @@ fn bits_by_table(
 /// Every sheet of tiny plain settings, every bit.
 #[test]
 fn tiny_sheets() {
-    for (k, top, n) in [(2, 1, 4), (2, 2, 5), (3, 2, 9)] {
+    for (k, top, n) in [(2, 1, 4), (2, 1, 6), (2, 1, 9), (2, 2, 5), (3, 2, 9)] {
         let settings = accept(0, k, top, n);
         let (table, levels) = (cycles(settings.k, top as u8), top + 1);
         for code in 0..levels.pow(n as u32) {

@@ -3,7 +3,9 @@
 mod common;
 
 use common::{accept, bits, cells, checked_change, sum};
+use second::compare::refused;
 use second::{read, Answer, Settings};
+use std::collections::HashSet;
 
 const PAGE: &str = concat!(env!("CARGO_MANIFEST_DIR"), "/../docs/RULES.md");
 
@@ -154,18 +156,42 @@ fn an_erase_that_is_cut() {
     }
 }
 
-/// On a plain sheet every change raises one level, so only one change could lead to a sheet with one level.
+/// Whether some run of changes from the erased sheet ends in this one. Levels never fall, so only
+/// sheets with no level above it can come before.
+fn has_a_past(settings: &Settings, sheet: &[u8]) -> bool {
+    let below = |before: &[u8]| before.iter().zip(sheet).all(|(old, new)| old <= new);
+    let mut seen = HashSet::from([vec![0; settings.n]]);
+    let mut left: Vec<Vec<u8>> = seen.iter().cloned().collect();
+    while let Some(before) = left.pop() {
+        for bit in 0..settings.k {
+            let mut after = before.clone();
+            let answer = checked_change(settings, &mut after, bit);
+            if answer != Answer::Erase && below(&after) && seen.insert(after.clone()) {
+                left.push(after);
+            }
+        }
+    }
+    seen.contains(sheet)
+}
+
 #[test]
 fn an_accepted_sheet_with_no_past() {
-    says("with k = 4 and L = 2 the plain sheet 0000 1000 0000 0000 is accepted, and no run");
-    let [(settings, sheet), _] = sheets("0000 1000");
-    assert_eq!(
-        (bits(&settings, &sheet), sum(&sheet)),
-        (vec![1, 0, 0, 0], 1)
-    );
-    for bit in 0..settings.k {
-        let mut erased = vec![0; settings.n];
-        assert_eq!(checked_change(&settings, &mut erased, bit), Answer::Done(1));
-        assert_ne!(erased, sheet);
+    says("the staged sheet 1000 0100 0010 2222, 01 00 00 00 00 00 of the cut move above is accepted, and no run");
+    let settings = accept(1, 4, 2, 28);
+    let sheet = cells("1000 0100 0010 2222, 01 00 00 00 00 00");
+    assert_eq!(bits(&settings, &sheet), [1, 0, 0, 0]);
+    assert!(!has_a_past(&settings, &sheet));
+    for whole in [
+        "1000 0100 0010 2222, 00 00 00 00 00 00",
+        "1010 0110 0010 2222, 01 02 10 11 00 00",
+    ] {
+        assert!(has_a_past(&settings, &cells(whole)), "{whole}");
     }
+}
+
+#[test]
+fn sheets_refused_for_the_order_of_their_blocks() {
+    let page = std::fs::read_to_string(PAGE).unwrap();
+    let table = refused::table().unwrap();
+    assert!(page.contains(&format!("\n\n{}\n\n", table.trim())));
 }

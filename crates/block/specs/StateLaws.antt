@@ -9,7 +9,7 @@ use lib.ListN.{length, replicate}
 use Rattle.laws.specs.Block.{state-one}
 use Rattle.laws.specs.Lists.{sum-low, sum-replicate}
 use Rattle.rules.specs.Block.{empty, full, broken, cycle, stateOf}
-use Rattle.rules.specs.Cells.{Low, sum}
+use Rattle.rules.specs.Cells.{Low, same?, sum}
 use Rattle.rules.specs.Search.{pick}
 
 -- ---- a test that answers true or false
@@ -30,6 +30,16 @@ test-false (no h) p e x = h x
 pub sum-zero : (b : List ℕ) → sum b ≡ 0 → b ≡ replicate (length b) 0
 sum-zero [] e = refl
 sum-zero (x ∷ b) e = ap₂ (λ (y : ℕ) (r : List ℕ). y ∷ r) (omega arith) (sum-zero b (omega arith))
+
+-- what a look for a cell above 0 tells of the sum: there is none
+pub zero-sum : (b : List ℕ) → pick (same? b (replicate (length b) 0)) true false ≡ true → sum b ≡ 0
+zero-sum b t = ap sum (test-true (same? b (replicate (length b) 0)) refl t) ∙ sum-replicate (length b) 0 ∙ omega arith
+
+-- or there is one
+pub some-sum : (b : List ℕ) → pick (same? b (replicate (length b) 0)) true false ≡ false → 0 < sum b
+some-sum b t =
+    let n : sum b ≢ 0 = λ e. test-false (same? b (replicate (length b) 0)) refl t (sum-zero b e) in
+    omega arith
 
 -- cells that are at most L and whose sum is as great as can be are all at L
 pub sum-full : (L : ℕ) (b : List ℕ) → Low L b → sum b ≡ length b * L → b ≡ replicate (length b) L

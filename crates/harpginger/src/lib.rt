@@ -5,7 +5,7 @@ ghost use Rattle.rules.specs.Interface.{recordOf};
 ghost use Rattle.rules.specs.Promises.{SettingsIntoPromise, EraseByPromise, ReadByPromise, ChangeByPromise, VersionPromise};
 
 // The version of this interface.
-const VERSION: usize = 2;
+const VERSION: usize = 3;
 
 // The record that seven numbers stand for; any other count of numbers stands for the record of zeros.
 fn record_of(numbers: &[usize]) -> Settings

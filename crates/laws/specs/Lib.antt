@@ -10,6 +10,7 @@ pub mod Stage
 pub mod Index
 pub mod Live
 pub mod PlainMaps
+pub mod Packed
 pub mod PlainSheet
 pub mod Halve
 pub mod Parity

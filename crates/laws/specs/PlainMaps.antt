@@ -81,7 +81,8 @@ bit-view i full h = absurd h
 bit-view i broken h = absurd h
 bit-view i (active j v) h = (v, ap (λ (x : ℕ). active x v) (sym h))
 
-empty-view : (s : State) → IsEmpty s → s ≡ empty
+-- a block that is empty has that state
+pub empty-view : (s : State) → IsEmpty s → s ≡ empty
 empty-view empty h = refl
 empty-view full h = absurd h
 empty-view broken h = absurd h
@@ -94,7 +95,7 @@ NoBlock m i st = (x : ℕ) → x < m → ¬ (HasBit i (st x))
 -- what a plan means
 pub data Planned (F m i : ℕ) (st : ℕ → State) : Plan → Type 0 where
   own : (j v : ℕ) → j < m → st j ≡ active i v → Planned F m i st (put j (next F (active i v)))
-  new : (j : ℕ) → j < m → st j ≡ empty → NoBlock m i st → Planned F m i st (put j (active i 1))
+  new : (j : ℕ) → j < m → st j ≡ empty → NoBlock m i st → ((x : ℕ) → x < j → ¬ (IsEmpty (st x))) → Planned F m i st (put j (active i 1))
   out : NoBlock m i st → ((x : ℕ) → x < m → ¬ (IsEmpty (st x))) → Planned F m i st erase
 
 -- what a reading means
@@ -107,7 +108,7 @@ module _ (F m i : ℕ) (st : ℕ → State) where
   plan-from-is (hit j l h b) g =
       let v : (v : ℕ) × (st j ≡ active i v) = bit-view i (st j) h in
       subst (λ (s : State). Planned F m i st (put j (next F s))) (sym (v .1)) (own j (v .0) l (v .1))
-  plan-from-is (miss b) (hit j l h c) = new j l (empty-view (st j) h) b
+  plan-from-is (miss b) (hit j l h c) = new j l (empty-view (st j) h) b c
   plan-from-is (miss b) (miss c) = out b c
 
   -- the plan of the rules is so
@@ -208,7 +209,7 @@ module _ (k F m i : ℕ) (even : F % 2 ≡ 0) (big : 1 < F) (here : i < k) (st :
         after = λ st′ u. grown-reads F i v m j st′ (ℕ-discrete (suc v) F) even l (u .there)
             (λ x lx d h. others j v l e x lx d (subst (HasBit i) (u .rest x lx d) h));
       }
-  legal (new j l e h) =
+  legal (new j l e h _) =
       record {
         place = l;
         fits = (here, omega arith, omega arith);

@@ -11,9 +11,10 @@ use Rattle.laws.specs.Block.{Means, cycle-full, cycle-low, cycle-rises, 
 use Rattle.laws.specs.Cut.{blockSum, length-store, store-other, store-past, store-rises, store-same, store-sum, sum-blocks, sum-split}
 use Rattle.laws.specs.Lists.{drop-replicate, low-append, low-drop, low-replicate, low-take, sum-replicate, take-replicate}
 use Rattle.laws.specs.PlainMaps.{Lawful, Legal, Planned, Proper, Update, bit-two, erase-late, flips, keeps, lawful-from, legal, new, no-repeat, own, plan-is, stays, total}
+use Rattle.laws.specs.Packed.{packed-blank, packed-put}
 use Rattle.rules.specs.Block.{State, active, broken, cellsOf, cycle, empty, full, grown, next, stateOf}
 use Rattle.rules.specs.Cells.{Low, Rises, block, store, sum}
-use Rattle.rules.specs.Plain.{BlocksOk, HasBit, OnCycle, Plan, carryOut, change, erase, plan, put, read, states, weight}
+use Rattle.rules.specs.Plain.{BlocksOk, HasBit, OnCycle, Packed, Plan, carryOut, change, erase, plan, put, read, states, weight}
 use Rattle.rules.specs.Search.{Result, done, noPlace}
 
 -- ---- the maps D0 and E0
@@ -28,6 +29,7 @@ pub record Accepted (k L m n : ℕ) (xs : List ℕ) : Type 0 where
   pub long : length xs ≡ n
   pub low : Low L xs
   pub lawful : Lawful k (k * L) m (states k L xs)
+  pub packed : Packed k m (states k L xs)
   pub spare : drop (m * k) xs ≡ replicate (n - m * k) 0
 
 -- the same in the words of the rules
@@ -50,8 +52,8 @@ blocks-lawful k L m xs h g b = lawful-from k (k * L) m (states k L xs)
     (λ j l. proper-from k L (stateOf k L (block k xs j)) (block k xs j) (b .0 j l) (state-means k L h g (block k xs j))) (b .1)
 
 -- and conversely
-pub lawful-blocks : (k L m : ℕ) (xs : List ℕ) → Lawful k (k * L) m (states k L xs) → BlocksOk k L m xs
-lawful-blocks k L m xs a = (λ j l. on-cycle k (k * L) (states k L xs j) (a .proper j l), no-repeat k (k * L) m (states k L xs) a)
+pub lawful-blocks : (k L m : ℕ) (xs : List ℕ) → Lawful k (k * L) m (states k L xs) → Packed k m (states k L xs) → BlocksOk k L m xs
+lawful-blocks k L m xs a p = (λ j l. on-cycle k (k * L) (states k L xs j) (a .proper j l), no-repeat k (k * L) m (states k L xs) a, p)
 
 -- ---- an accepted change
 
@@ -131,7 +133,7 @@ module _ (k L m n : ℕ) (two : 1 < k) (g : 0 < L) (even : k * L % 2 ≡ 0) (roo
     block-rises : {j : ℕ} {s : State} → Planned (k * L) m i (states k L xs) (put j s) → Rises (cellsOf k L (states k L xs j)) (cellsOf k L s)
     block-rises (own j v l e) =
         subst (λ (s : State). Rises (cellsOf k L s) (cellsOf k L (next (k * L) (active i v)))) (sym e) (grown-rises v (ℕ-discrete (suc v) (k * L)))
-    block-rises (new j l e h) =
+    block-rises (new j l e h _) =
         subst (λ (s : State). Rises (cellsOf k L s) (cycle k L i 1)) (sym e)
         (subst (λ (r : List ℕ). Rises r (cycle k L i 1)) (cycle-zero k L i (omega arith)) (cycle-rises k L i (omega arith) 0 1 (omega arith)))
 
@@ -149,6 +151,7 @@ module _ (k L m n : ℕ) (two : 1 < k) (g : 0 < L) (even : k * L % 2 ≡ 0) (roo
             long = length-store k xs j f (cellsOf k L s) e ∙ a .long;
             low = low-append L (take (j * k) xs) _ (low-take L (j * k) xs (a .low)) (low-append L (cellsOf k L s) _ (low-cells s) (low-drop L (j * k + k) xs (a .low)));
             lawful = stays k (k * L) m i j s st (states k L (store k xs j (cellsOf k L s))) (a .lawful) y u;
+            packed = packed-put k (k * L) m i st (states k L (store k xs j (cellsOf k L s))) here (a .lawful) (a .packed) p u;
             spare = store-past k xs j f (cellsOf k L s) e (m * k) (omega (arith, mul-le-mul-right {m = suc j} {n = m} k (y .place))) ∙ a .spare;
           };
           flips = flips k (k * L) m i j s st (states k L (store k xs j (cellsOf k L s))) (a .lawful) y u;
@@ -234,6 +237,7 @@ module _ (k L m n : ℕ) (two : 1 < k) (g : 0 < L) (even : k * L % 2 ≡ 0) (roo
       proper = λ j l. subst (Proper k (k * L)) (sym (blank j l)) tt;
       apart = λ i j j′ l l′ h. absurd (subst (HasBit i) (blank j l) h);
     };
+    packed = packed-blank k m (states k L (replicate n 0)) blank;
     spare = drop-replicate (m * k) n 0 room;
   }
 

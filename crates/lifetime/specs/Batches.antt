@@ -306,6 +306,7 @@ module _ (s m L w n : ℕ) (g : 0 < L) (pos : 1 < s) (fit : 2 ^ s + 2 ≤ suc L 
     long = tail-short f e;
     low = low-take L (m * 2 ^ s) f low;
     lawful = blocks-lawful (2 ^ s) L m (take (m * 2 ^ s) f) (pow-pos s) g ok;
+    packed = ok .2;
     spare = drop-of-length-le (take (m * 2 ^ s) f) {i = m * 2 ^ s} (omega (arith, tail-short f e)) ∙ ap (λ (x : ℕ). replicate x 0) (sym (sub-self (m * 2 ^ s)));
   }
   sheet-fits f e low (hit d l h b) ok =
@@ -334,5 +335,5 @@ module _ (s m L w n : ℕ) (g : 0 < L) (pos : 1 < s) (fit : 2 ^ s + 2 ≤ suc L 
 
 -- and back
 pub fits-sound : (s m L : ℕ) (x : Sheet) → S.Fits s m L x → SheetOk s m L x
-fits-sound s m L (stage0 xs) h = lawful-blocks (2 ^ s) L m xs (h .lawful)
+fits-sound s m L (stage0 xs) h = lawful-blocks (2 ^ s) L m xs (h .lawful) (h .packed)
 fits-sound s m L (staged d xs es) h = (h .stands .even, h .stands .names)

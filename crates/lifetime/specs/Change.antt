@@ -40,7 +40,7 @@ module _ (r : Settings) (p : PlainFacts r) where
   plain-is : (xs : List ℕ) → Accepted r xs → P.Accepted (r .k) (r .top) (r .m) (r .n) xs
   plain-is xs a =
       let q : R.Sound (r .k) (r .top) (r .m) (r .n) xs = plain-sound r p xs (a .sound) in
-      record { long = a .long; low = a .low; lawful = P.blocks-lawful (r .k) (r .top) (r .m) xs (omega (arith, p .bits-least)) (p .top-least) (q .0); spare = q .1 }
+      record { long = a .long; low = a .low; lawful = P.blocks-lawful (r .k) (r .top) (r .m) xs (omega (arith, p .bits-least)) (p .top-least) (q .0); packed = q .0 .2; spare = q .1 }
 
   -- a sheet that the laws of plain sheets accept is accepted
   pub is-plain : (xs : List ℕ) → Genuine r → P.Accepted (r .k) (r .top) (r .m) (r .n) xs → Accepted r xs
@@ -48,7 +48,7 @@ module _ (r : Settings) (p : PlainFacts r) where
     genuine = g;
     long = a .long;
     low = a .low;
-    sound = sound-plain r p xs (P.lawful-blocks (r .k) (r .top) (r .m) xs (a .lawful), a .spare);
+    sound = sound-plain r p xs (P.lawful-blocks (r .k) (r .top) (r .m) xs (a .lawful) (a .packed), a .spare);
   }
 
   -- what the encoding map of kind 0 makes of it

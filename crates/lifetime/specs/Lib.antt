@@ -14,6 +14,7 @@ pub mod Run
 pub mod OneOutcome
 pub mod Programs
 pub mod Refusals
+pub mod Causes
 pub mod Readings
 pub mod Impostors
 pub mod Pretending

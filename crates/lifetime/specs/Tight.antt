@@ -122,7 +122,7 @@ module _ (k L m n : ℕ) (two : 1 < k) (g : 0 < L) (even : k * L % 2 ≡ 0) (roo
       sort : {j : ℕ} {s : State} (st′ : ℕ → State) → Planned (k * L) m (suc t) st (put j s) → Update m st st′ j s
           → ((x : ℕ) → x < m → Early (suc t) (st′ x)) × (tally light st′ m ≡ suc t)
       sort st′ (own j v b q) u = absurd (lt-irrefl t (subst (Early t) q (f .each j b) .0))
-      sort st′ (new j b q h) u = (
+      sort st′ (new j b q h _) u = (
         upd-all u (λ _ s. Early (suc t) s) (le-refl (suc t), refl) (λ x lx d. early-more t (st x) (f .each x lx)),
         omega (arith, f .lights, tally-upd light u, ap light q),
       )
@@ -171,7 +171,7 @@ module _ (k L m n : ℕ) (two : 1 < k) (g : 0 < L) (even : k * L % 2 ≡ 0) (roo
       sort st′ (own j v l q) u =
           let d : Ending (next (k * L) (active 0 v)) × (light (next (k * L) (active 0 v)) ≡ 0) = grown-ending v (ℕ-discrete (suc v) (k * L)) in
           (upd-all u (λ _ s. Ending s) (d .0) (λ x lx _. o x lx), omega (arith, e, tally-upd light u, ap light q, d .1))
-      sort st′ (new j l q _) u = (upd-all u (λ _ s. Ending s) tt (λ x lx _. o x lx), omega (arith, e, tally-upd light u, ap light q))
+      sort st′ (new j l q _ _) u = (upd-all u (λ _ s. Ending s) tt (λ x lx _. o x lx), omega (arith, e, tally-upd light u, ap light q))
 
       go : (a : Result (List ℕ)) → change k L m 0 xs ≡ a
           → ((ys : List ℕ) → Run k L m n (suc c) ys → ((x : ℕ) → x < m → Ending (states k L ys x)) → tally light (states k L ys) m ≡ k - 1 → m * (k * L) < suc c + fuel → End) → End

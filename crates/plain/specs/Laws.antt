@@ -1,4 +1,5 @@
 -- Laws of a scan: what one more block adds to what is known, and what a scan says of a reading and of a change. Assumes nothing.
+use mathlib.Core.Bool.{Bool, true, false}
 use mathlib.Core.List.{List, [], _∷_, _++_}
 use mathlib.Core.Logic.{_≢_, ⊎-elim}
 use mathlib.Core.Path.{_≡_, _∙_, ap, refl, subst, sym}
@@ -11,54 +12,35 @@ use lib.ListN.{length, getD, getD-replicate, take, drop, replicate, set}
 use lib.Seq.{append-snoc, drop-cons, getD-set-other, getD-set-same, getD-take, length-take-le, set-at, take-suc}
 use Rattle.laws.specs.Block.{Means, cycle-full, cycle-zero, length-cycle, state-means, sum-cycle}
 use Rattle.laws.specs.Cut.{block-fits, length-block, low-block, part-block, store-sum}
-use Rattle.laws.specs.Distinct.{Below, Distinct, pigeon}
-use Rattle.laws.specs.Lists.{length-tabulate, low-drop, low-take, sum-append, tabulate-more}
+use Rattle.laws.specs.Distinct.{Below, Distinct, covers, pigeon, pigeon-absent}
+use Rattle.laws.specs.Lists.{length-tabulate, low-drop, low-take, sum-append, sum-replicate, tabulate-more}
 use Rattle.laws.specs.Live.{run-keeps}
-use Rattle.laws.specs.PlainMaps.{bit-same, same-bit, to-bit}
+use Rattle.laws.specs.Packed.{empty-on}
+use Rattle.laws.specs.PlainMaps.{bit-same, empty-view, same-bit, to-bit}
 use Rattle.laws.specs.Stage.{absent-at}
 use Rattle.block.specs.Meaning.{RunFrom}
 use Rattle.block.specs.RunLaws.{past-full}
 use Rattle.block.specs.StateLaws.{state-empty, state-full}
 use Rattle.rules.specs.Block.{State, active, broken, cellsOf, cycle, empty, full, grown, next, stateOf}
 use Rattle.rules.specs.Cells.{Low, block, store, sum, tabulate}
-use Rattle.rules.specs.Plain.{AllOnCycle, BlocksOk, HasBit, IsEmpty, NoRepeat, OnCycle, bitOf, blocksOk?, carryOut, change, hasBit?, isEmpty?, plan, planFrom, read, states, valueAt, weight}
+use Rattle.rules.specs.Plain.{AllActive, AllOnCycle, BlocksOk, FullLast, HasBit, IsEmpty, NoRepeat, OnCycle, bitOf, blocksOk?, carryOut, change, hasBit?, isEmpty?, plan, planFrom, read, states, valueAt, weight}
 use Rattle.rules.specs.Search.{at, done, first, noPlace, nowhere, pick}
-use Rattle.rules.specs.SearchLaws.{First, first-eq, hit, miss, pick-elim, pick-no, pick-yes}
+use Rattle.rules.specs.SearchLaws.{First, all-more, first-eq, hit, miss, pick-elim, pick-no, pick-yes}
 use Rattle.rules.specs.Stage.{Absent}
 use Rattle.rules.specs.Calls.{Pass, Refuse, asCheck}
 use Rattle.rules.specs.declared.Answer.{Answer}
 use Rattle.rules.specs.declared.Answer.the-variants.{BadSheet, Done}
 use Rattle.rules.specs.declared.Look.{Look}
-use Rattle.plain.specs.Meaning.{Free, Held, Place, PlaceOf, Scanned, differing, distinct?, erase, free, held, lookOf, none, parities, placeIn, some, step}
+use Rattle.plain.specs.Meaning.{EmptyFrom, Free, Held, Place, PlaceOf, Scanned, closing, differing, distinct?, erase, free, held, lookOf, none, parities, placeIn, some, step}
+use Rattle.plain.specs.OrderLaws.{Ends, Ordered, order-ends, order-first, order-hole}
 use Rattle.plain.specs.declared.Found.the-variants.{At, Nowhere}
 
--- ---- one more place
-
--- what holds of every place below j, and of j, holds of every place below j + 1
-all-more : {P : ℕ → Type 0} {j : ℕ} → ((y : ℕ) → y < j → P y) → P j → (y : ℕ) → y < suc j → P y
-all-more {P} a h y l = ⊎-elim (λ e. subst P (sym e) h) (λ q. a y q) (eq-or-lt-of-le (le-of-suc-le-suc l))
-
--- the first place stays where the next is none
-place-skip : {P : ℕ → Type 0} {j m e : ℕ} → Place P j m e → ¬ (P j) → Place P (suc j) m e
-place-skip (some x l h b) n = some x (omega arith) h b
-place-skip (none b) n = none (all-more b n)
-
--- where the next is one, the first place is the one found before, if any, or else the next
-place-next : {P : ℕ → Type 0} {j m e : ℕ} → Place P j m e → j < m → P j → Place P (suc j) m (pick (decLt e m) e j)
-place-next {P} {j} {m} (some x l h b) q p =
-    subst (Place P (suc j) m) (sym (pick-yes (decLt x m) x j (omega arith))) (some x (omega arith) h b)
-place-next {P} {j} {m} (none b) q p =
-    let n : ¬ (m < m) = λ h. omega arith in
-    subst (Place P (suc j) m) (sym (pick-no (decLt m m) m j n)) (some j (le-refl (suc j)) p b)
+-- ---- one more block
 
 -- a bit's block and weight stay where the next block has another bit or none
 held-skip : {st : ℕ → State} {i j m p v : ℕ} → ¬ (HasBit i (st j)) → Held st i j m p v → Held st i (suc j) m p v
 held-skip n (held x v l e b) = held x v (omega arith) e b
 held-skip n (free b) = free (all-more b n)
-
--- the first empty block found is one of the m blocks
-pub first-below : (e j m : ℕ) → j < m → pick (decLt e m) e j < m
-first-below e j m l = pick-elim (λ x. x < m) (decLt e m) e j (λ h. h) (λ h. l)
 
 -- ---- a list with one more number
 
@@ -126,6 +108,21 @@ differing-not i j n bits l h g e =
     let p : i < n = omega arith in
     sym (pick-no (distinct? (take n bits)) (Done 0) BadSheet (λ d. distinct-at i j (take n bits) l q d (getD-take n bits i 0 p ∙ e ∙ sym (getD-take n bits j 0 h))))
 
+-- the answer where the bits are k and the last block in use is full
+pub closing-full : (f : Bool) (n k : ℕ) (a : Answer) → f ≡ true → n ≡ k → BadSheet ≡ closing f n k a
+closing-full true n k a t e = sym (pick-yes (ℕ-discrete n k) BadSheet a e)
+closing-full false n k a t e = let z : _≡_ {A = ℕ} 0 1 = cc in absurd (omega arith)
+
+-- where the last block in use is not full
+pub closing-open : (f : Bool) (n k : ℕ) (a : Answer) → f ≡ false → a ≡ closing f n k a
+closing-open true n k a t = let z : _≡_ {A = ℕ} 0 1 = cc in absurd (omega arith)
+closing-open false n k a t = refl
+
+-- and where the bits are not k
+pub closing-few : (f : Bool) (n k : ℕ) (a : Answer) → n ≢ k → a ≡ closing f n k a
+closing-few true n k a d = sym (pick-no (ℕ-discrete n k) BadSheet a d)
+closing-few false n k a d = refl
+
 -- ---- what is known of the blocks below j
 
 -- the bits of the active blocks below j
@@ -134,20 +131,18 @@ pub record Seen (k : ℕ) (st : ℕ → State) (j : ℕ) (bits : List ℕ) : Typ
   pub told : (i : ℕ) → Absent i bits → Free st j i
   pub free : (i : ℕ) → Free st j i → Absent i bits
 
--- the blocks below j keep the rules; the first empty one, each bit's block and weight, and the bits seen
-pub record Known (k m : ℕ) (st : ℕ → State) (j e : ℕ) (places weights bits : List ℕ) : Type 0 where
+-- the blocks below j are on cycles with no bit twice; each bit's block and weight, and the bits seen
+pub record Known (k m : ℕ) (st : ℕ → State) (j : ℕ) (places weights bits : List ℕ) : Type 0 where
   pub cycles : AllOnCycle j st
   pub apart : NoRepeat j st
-  pub first : Place (λ y. IsEmpty (st y)) j m e
   pub held : (i : ℕ) → i < k → Held st i j m (getD places i 0) (getD weights i 0)
   pub seen : Seen k st j bits
 
 -- nothing below 0
-known-none : (k m : ℕ) (st : ℕ → State) → k ≤ 64 → Known k m st 0 m (replicate 64 m) (replicate 64 0) []
+known-none : (k m : ℕ) (st : ℕ → State) → k ≤ 64 → Known k m st 0 (replicate 64 m) (replicate 64 0) []
 known-none k m st h = record {
   cycles = λ j l. absurd (not-suc-le-zero l);
   apart = λ j l. absurd (not-suc-le-zero l);
-  first = none (λ y l. absurd (not-suc-le-zero l));
   held = λ i l.
       let q : i < 64 = omega arith in
       subst (λ (p : ℕ). Held st i 0 m p (getD (replicate 64 0) i 0)) (sym (getD-replicate 64 i m 0 q))
@@ -155,13 +150,12 @@ known-none k m st h = record {
   seen = record { below = tt; told = λ i o y l. absurd (not-suc-le-zero l); free = λ i f. tt };
 }
 
-module _ {k m : ℕ} {st : ℕ → State} {j e : ℕ} {places weights bits : List ℕ} (g : Known k m st j e places weights bits) where
+module _ {k m : ℕ} {st : ℕ → State} {j : ℕ} {places weights bits : List ℕ} (g : Known k m st j places weights bits) where
   -- one more block with no bit
-  known-idle : (e′ : ℕ) → OnCycle (st j) → ((i : ℕ) → ¬ (HasBit i (st j))) → Place (λ y. IsEmpty (st y)) (suc j) m e′ → Known k m st (suc j) e′ places weights bits
-  known-idle e′ o n p = record {
+  known-idle : OnCycle (st j) → ((i : ℕ) → ¬ (HasBit i (st j))) → Known k m st (j + 1) places weights bits
+  known-idle o n = subst (λ (x : ℕ). Known k m st x places weights bits) (sym (add-one j)) record {
     cycles = all-more (g .cycles) o;
     apart = all-more (g .apart) (λ x l s. let r = bit-same (st x) (st j) s in n (r .0) (r .2));
-    first = p;
     held = λ i l. held-skip (n i) (g .held i l);
     seen = record {
       below = g .seen .below;
@@ -171,14 +165,12 @@ module _ {k m : ℕ} {st : ℕ → State} {j e : ℕ} {places weights bits : Lis
   }
 
   -- a full block
-  pub known-full : st j ≡ full → Known k m st (j + 1) e places weights bits
-  known-full q = subst (λ (x : ℕ). Known k m st x e places weights bits) (sym (add-one j))
-      (known-idle e (subst OnCycle (sym q) tt) (λ i h. subst (HasBit i) q h) (place-skip (g .first) (λ h. subst IsEmpty q h)))
+  pub known-full : st j ≡ full → Known k m st (j + 1) places weights bits
+  known-full q = known-idle (subst OnCycle (sym q) tt) (λ i h. subst (HasBit i) q h)
 
   -- an empty block
-  pub known-empty : st j ≡ empty → j < m → Known k m st (j + 1) (pick (decLt e m) e j) places weights bits
-  known-empty q l = subst (λ (x : ℕ). Known k m st x (pick (decLt e m) e j) places weights bits) (sym (add-one j))
-      (known-idle (pick (decLt e m) e j) (subst OnCycle (sym q) tt) (λ i h. subst (HasBit i) q h) (place-next (g .first) l (subst IsEmpty (sym q) tt)))
+  known-empty : st j ≡ empty → Known k m st (j + 1) places weights bits
+  known-empty q = known-idle (subst OnCycle (sym q) tt) (λ i h. subst (HasBit i) q h)
 
   module _ (b v : ℕ) (q : st j ≡ active b v) where
     -- each bit's block and weight, with block j
@@ -203,43 +195,65 @@ module _ {k m : ℕ} {st : ℕ → State} {j e : ℕ} {places weights bits : Lis
     }
 
     -- an active block whose bit no earlier one holds
-    known-active : b < k → b < length places → b < length weights → Absent b bits
-        → Known k m st (j + 1) e (set places b j) (set weights b v) (bits ++ (b ∷ []))
-    known-active l lp lw o = subst (λ (x : ℕ). Known k m st x e (set places b j) (set weights b v) (bits ++ (b ∷ []))) (sym (add-one j)) record {
+    known-active : b < k → b < length places → b < length weights → Absent b bits → Known k m st (j + 1) (set places b j) (set weights b v) (bits ++ (b ∷ []))
+    known-active l lp lw o = subst (λ (x : ℕ). Known k m st x (set places b j) (set weights b v) (bits ++ (b ∷ []))) (sym (add-one j)) record {
       cycles = all-more (g .cycles) (subst OnCycle (sym q) tt);
       apart = all-more (g .apart) (λ x z s.
           let r = bit-same (st x) (st j) s in
           g .seen .told b o x z (subst (λ (i : ℕ). HasBit i (st x)) (subst (HasBit (r .0)) q (r .2)) (r .1)));
-      first = place-skip (g .first) (λ h. subst IsEmpty q h);
       held = λ i z. held-more lp lw (g .seen .told b o) i z (ℕ-discrete i b);
       seen = seen-more l o;
     }
 
+-- empty blocks up to the last
+pub known-rest : {k m : ℕ} {st : ℕ → State} {j : ℕ} {places weights bits : List ℕ} → j ≤ m → ((y : ℕ) → j ≤ y → y < m → st y ≡ empty)
+    → Known k m st j places weights bits → Known k m st m places weights bits
+known-rest {k} {m} {st} {j} {places} {weights} {bits} l h = run-keeps (λ y. Known k m st y places weights bits) j m l (λ y a b g. known-empty g (h y a b))
+
 -- ---- what is known where the bits noted differ
 
 -- the bits of the active blocks below j: where they differ all is known of those blocks, and they differ where no two of the m blocks have one bit
-pub record Noted (k m : ℕ) (st : ℕ → State) (j e : ℕ) (places weights bits : List ℕ) : Type 0 where
-  pub known : Distinct bits → Known k m st j e places weights bits
+pub record Noted (k m : ℕ) (st : ℕ → State) (j : ℕ) (places weights bits : List ℕ) : Type 0 where
+  pub known : Distinct bits → Known k m st j places weights bits
   pub differ : NoRepeat m st → Distinct bits
 
 -- nothing below 0
-pub noted-none : (k m : ℕ) (st : ℕ → State) → k ≤ 64 → Noted k m st 0 m (replicate 64 m) (replicate 64 0) []
+pub noted-none : (k m : ℕ) (st : ℕ → State) → k ≤ 64 → Noted k m st 0 (replicate 64 m) (replicate 64 0) []
 noted-none k m st h = record { known = λ d. known-none k m st h; differ = λ a. tt }
 
-module _ {k m : ℕ} {st : ℕ → State} {j e : ℕ} {places weights bits : List ℕ} (g : Noted k m st j e places weights bits) where
+module _ {k m : ℕ} {st : ℕ → State} {j : ℕ} {places weights bits : List ℕ} (g : Noted k m st j places weights bits) where
   -- blocks with no bit
-  pub noted-on : {x y : ℕ} → (Known k m st j e places weights bits → Known k m st x y places weights bits) → Noted k m st x y places weights bits
+  pub noted-on : {x : ℕ} → (Known k m st j places weights bits → Known k m st x places weights bits) → Noted k m st x places weights bits
   noted-on f = record { known = λ d. f (g .known d); differ = g .differ }
 
   -- an active block
   pub noted-active : (b v : ℕ) → st j ≡ active b v → j < m → b < k → b < length places → b < length weights
-      → Noted k m st (j + 1) e (set places b j) (set weights b v) (bits ++ (b ∷ []))
+      → Noted k m st (j + 1) (set places b j) (set weights b v) (bits ++ (b ∷ []))
   noted-active b v q h l lp lw = record {
     known = λ d. let r = distinct-front b bits d in known-active (g .known (r .0)) b v q l lp lw (r .1);
     differ = λ a.
         let d = g .differ a in
         distinct-snoc b bits d (g .known d .seen .free b (λ y z c. a j h y z (same-bit b (st y) (st j) c (to-bit q))));
   }
+
+-- ---- all k bits
+
+module _ {k m : ℕ} {st : ℕ → State} {places weights bits : List ℕ} (g : Known k m st m places weights bits) (d : Distinct bits) where
+  -- where k bits are seen, all have active blocks
+  seen-all : length bits ≡ k → AllActive k m st
+  seen-all e i l = go (g .held i l)
+    where
+      go : {p v : ℕ} → Held st i m m p v → (j : ℕ) × (j < m) × HasBit i (st j)
+      go (held x v q h f) = (x, q, to-bit h)
+      go (free f) = absurd (omega (arith, pigeon-absent k i bits l (g .seen .free i f) d (g .seen .below)))
+
+  -- and where all have, k bits are seen
+  all-seen : AllActive k m st → length bits ≡ k
+  all-seen a = omega (
+    arith,
+    pigeon k bits d (g .seen .below),
+    covers k bits (λ i l o. let q = a i l in g .seen .told i o (q .0) (q .1) (q .2)),
+  )
 
 -- ---- what a scan says
 
@@ -255,27 +269,59 @@ refused-is k L m xs r f n = record {
 pub scan-broken : (k L m j : ℕ) (xs : List ℕ) (r : Look) → r .answer ≡ BadSheet → j < m → states k L xs j ≡ broken → Scanned k L m xs r
 scan-broken k L m j xs r f l q = refused-is k L m xs r f (λ h. subst OnCycle q (h .0 j l))
 
-module _ (k L m n : ℕ) (xs bits : List ℕ) {j e : ℕ} {places weights : List ℕ} (g : Noted k m (states k L xs) j e places weights (take n bits)) where
-  -- bits that differ are at most k, so every block was looked at
-  scan-sound : n ≤ length bits → ((j < m) → (n ≤ k) → ⊥) → j ≤ m → Distinct (take n bits) → Known k m (states k L xs) m e places weights (take n bits)
-  scan-sound h s l d =
-      let few : n ≤ k = omega (arith, length-take-le n bits h, pigeon k (take n bits) d (g .known d .seen .below)) in
-      let o : ¬ (j < m) = λ q. s q few in
-      let q : j ≡ m = omega arith in
-      subst (λ (x : ℕ). Known k m (states k L xs) x e places weights (take n bits)) q (g .known d)
+-- an empty block stands before one that isn't empty
+pub scan-hole : (k L m j : ℕ) (xs : List ℕ) (r : Look) → r .answer ≡ BadSheet → j < m → states k L xs j ≡ empty
+    → ¬ ((y : ℕ) → j + 1 ≤ y → y < m → IsEmpty (states k L xs y)) → Scanned k L m xs r
+scan-hole k L m j xs r f l q n = refused-is k L m xs r f (λ h. n (λ y a b. empty-on m (states k L xs) (h .2 .0) y b j (omega arith) (subst IsEmpty (sym q) tt)))
 
-  -- the search for a repeat decides
-  pub scan-decided : n ≤ length bits → ((j < m) → (n ≤ k) → ⊥) → j ≤ m → Scanned k L m xs (lookOf (differing (take n bits)) places weights e)
-  scan-decided h s l =
+module _ (k L m n : ℕ) (xs bits : List ℕ) {j e : ℕ} {f : Bool} {places weights : List ℕ}
+    (g : Noted k m (states k L xs) j places weights (take n bits)) (o : Ordered (states k L xs) m j e f)
+    (long : n ≤ length bits) (whole : (j < m) → (n ≤ k) → ⊥) (inside : j ≤ m) where
+  -- where the bits differ they are at most k, so every block was looked at
+  at-end : Distinct (take n bits) → j ≡ m
+  at-end d =
+      let few : n ≤ k = omega (arith, length-take-le n bits long, pigeon k (take n bits) d (g .known d .seen .below)) in
+      let q : ¬ (j < m) = λ q. whole q few in
+      omega arith
+
+  -- all is known then
+  all-known : Distinct (take n bits) → Known k m (states k L xs) m places weights (take n bits)
+  all-known d = subst (λ (x : ℕ). Known k m (states k L xs) x places weights (take n bits)) (at-end d) (g .known d)
+
+  -- and the order of all blocks
+  all-ordered : Distinct (take n bits) → Ordered (states k L xs) m m e f
+  all-ordered d = subst (λ (x : ℕ). Ordered (states k L xs) m x e f) (at-end d) o
+
+  -- the search for a repeat decides, unless all k bits have active blocks and the last block in use is full
+  scan-repeats : (Distinct (take n bits) → ¬ (FullLast k m (states k L xs))) → Scanned k L m xs (lookOf (differing (take n bits)) places weights e)
+  scan-repeats h =
       pick-elim (λ a. Scanned k L m xs (lookOf a places weights e)) (distinct? (take n bits)) (Done 0) BadSheet
-      (λ d.
-      let q = scan-sound h s l d in
-      record {
-        answer = sym (pick-yes (blocksOk? k L m xs) (Done 0) BadSheet (q .cycles, q .apart));
-        first = λ r. q .first;
-        bits = λ r. q .held;
+      (λ d. record {
+        answer = sym (pick-yes (blocksOk? k L m xs) (Done 0) BadSheet (all-known d .cycles, all-known d .apart, (order-hole (all-ordered d), h d)));
+        first = λ r. order-first (all-ordered d);
+        bits = λ r. all-known d .held;
       })
       (λ d. refused-is k L m xs (lookOf BadSheet places weights e) refl (λ b. d (g .differ (b .1))))
+
+  -- k bits are noted, and the last block in use is full
+  scan-full-last : n ≡ k → f ≡ true → Scanned k L m xs (lookOf BadSheet places weights e)
+  scan-full-last c t = refused-is k L m xs (lookOf BadSheet places weights e) refl (λ b.
+      let d = g .differ (b .1) in
+      b .2 .1 (seen-all (all-known d) d (length-take-le n bits long ∙ c), subst (Ends (states k L xs) m) t (order-ends (all-ordered d))))
+
+  -- not k bits are noted
+  not-full-last : n ≢ k → Distinct (take n bits) → ¬ (FullLast k m (states k L xs))
+  not-full-last h d p = h (sym (length-take-le n bits long) ∙ all-seen (all-known d) d (p .0))
+
+-- the search for a repeat decides, but where k bits are noted and the last block in use is full
+pub scan-decided : (k L m n : ℕ) (xs bits : List ℕ) {j e : ℕ} (f : Bool) {places weights : List ℕ} → Noted k m (states k L xs) j places weights (take n bits)
+    → Ordered (states k L xs) m j e f → n ≤ length bits → ((j < m) → (n ≤ k) → ⊥) → j ≤ m → Scanned k L m xs (lookOf (closing f n k (differing (take n bits))) places weights e)
+scan-decided k L m n xs bits {e = e} true {places} {weights} g o h s l =
+    pick-elim (λ a. Scanned k L m xs (lookOf a places weights e)) (ℕ-discrete n k) BadSheet (differing (take n bits))
+    (λ c. scan-full-last k L m n xs bits g o h s l c refl)
+    (λ c. scan-repeats k L m n xs bits g o h s l (not-full-last k L m n xs bits g o h s l c))
+scan-decided k L m n xs bits false g o h s l =
+    scan-repeats k L m n xs bits g o h s l (λ d p. order-ends (all-ordered k L m n xs bits g o h s l d) (p .1))
 
 -- ---- what its answer tells
 
@@ -322,20 +368,20 @@ module _ (k L m : ℕ) (xs : List ℕ) (two : 2 ≤ k) (g : 0 < L) (fits : m * k
       ap (λ (z : ℕ). stateOf z L (block k xs y)) (sym n)
       ∙ sym (state-empty L (block k xs y) (sum (block k xs y)) refl (omega arith) g (low-block L k xs y low) e)
 
-  module _ {j e r : ℕ} {places weights bits : List ℕ} (h : Known k m (states k L xs) j e places weights bits) (a : j ≤ r) (b : r ≤ m) where
-    -- full blocks are passed over in runs
-    pub known-past-full : RunFrom k L xs j r → Known k m (states k L xs) r e places weights bits
-    known-past-full f =
-        run-keeps (λ y. Known k m (states k L xs) y e places weights bits) j r a
-        (λ y c d o. known-full o (heavy-state y (omega arith) (past-full k L j r xs low f y c d))) h
+  -- full blocks are passed over in runs
+  pub past-all : (P : ℕ → Type 0) {j r : ℕ} → j ≤ r → r ≤ m → RunFrom k L xs j r → ((y : ℕ) → y < m → states k L xs y ≡ full → P y → P (y + 1)) → P j → P r
+  past-all P {j} {r} a b f s = run-keeps P j r a (λ y c d. s y (omega arith) (heavy-state y (omega arith) (past-full k L j r xs low f y c d)))
 
-    -- and so are empty ones past the first
-    pub known-past-empty : e < m → RunFrom k 0 xs j r → Known k m (states k L xs) r e places weights bits
-    known-past-empty l f =
-        run-keeps (λ y. Known k m (states k L xs) y e places weights bits) j r a
-        (λ y c d o.
-        subst (λ (x : ℕ). Known k m (states k L xs) (y + 1) x places weights bits) (pick-yes (decLt e m) e y l)
-        (known-empty o (light-state y (omega arith) (f y c d .1 refl)) (omega arith))) h
+  -- an empty block and blocks after it that weigh nothing are all empty
+  pub empty-rest : {j : ℕ} → states k L xs j ≡ empty → EmptyFrom k xs (j + 1) m → (y : ℕ) → j ≤ y → y < m → states k L xs y ≡ empty
+  empty-rest e h y a b = ⊎-elim (λ q. ap (states k L xs) (sym q) ∙ e) (λ q. light-state y b (h y (omega arith) b)) (eq-or-lt-of-le a)
+
+  -- and every empty block weighs nothing
+  pub rest-weights : {from : ℕ} → ((y : ℕ) → from ≤ y → y < m → IsEmpty (states k L xs y)) → EmptyFrom k xs from m
+  unfolding states
+  rest-weights h y a b =
+      let e : Means k L empty (block k xs y) = subst (λ (s : State). Means k L s (block k xs y)) (empty-view (states k L xs y) (h y a b)) (state-means k L (omega arith) g (block k xs y)) in
+      ap sum e ∙ sum-replicate k 0 ∙ omega arith
 
 -- ---- a block as a part lent on
 
@@ -394,12 +440,6 @@ module _ (k L m i : ℕ) (xs : List ℕ) (h : 0 < k) (g : 0 < L) (b : i < k) whe
   -- an empty block is the step of weight 0 on any cycle
   empty-cells : (j : ℕ) → IsEmpty (states k L xs j) → block k xs j ≡ cycle k L i 0
   empty-cells j n = block-means j empty (empty-view (states k L xs j) n) ∙ sym (cycle-zero k L i (omega arith))
-    where
-      empty-view : (s : State) → IsEmpty s → s ≡ empty
-      empty-view empty n = refl
-      empty-view full n = absurd n
-      empty-view broken n = absurd n
-      empty-view (active j v) n = absurd n
 
   -- a bit's block and the first empty block give the place of the change
   place-is : {p v e : ℕ} → Held (states k L xs) i m m p v → Place (λ y. IsEmpty (states k L xs y)) m m e

@@ -1,12 +1,13 @@
 -- What a scan of the blocks finds, in terms of their states. Assumes nothing.
+use mathlib.Core.Bool.{Bool, true, false}
 use mathlib.Core.Path.{_≡_}
 use mathlib.Core.List.{List, [], _∷_}
-use Prim.Native.Nat.{ℕ, _+_, _*_, _%_, _<_}
-use native.Mathlib.Decide.{decLt}
+use Prim.Native.Nat.{ℕ, _+_, _*_, _%_, _≤_, _<_}
+use native.Mathlib.Decide.{ℕ-discrete, decLt}
 use lib.ListN.{getD, replicate}
 use Rattle.laws.specs.Distinct.{Distinct}
 use Rattle.rules.specs.Search.{both?, pick, done, noPlace}
-use Rattle.rules.specs.Cells.{tabulate, block, store}
+use Rattle.rules.specs.Cells.{tabulate, block, store, sum}
 use Rattle.rules.specs.Block.{State, active, cycle}
 use Rattle.rules.specs.Plain.{HasBit, IsEmpty, BlocksOk, blocksOk?, states, change}
 use Rattle.rules.specs.Stage.{absent?}
@@ -30,6 +31,10 @@ pub data Held (st : ℕ → State) (i j m : ℕ) : ℕ → ℕ → Type 0 where
   held : (x v : ℕ) → x < j → st x ≡ active i v → Free st x i → Held st i j m x v
   free : Free st j i → Held st i j m m 0
 
+-- every block from a number on weighs nothing
+abbrev pub EmptyFrom : ℕ → List ℕ → ℕ → ℕ → Type 0
+EmptyFrom k xs from m = (y : ℕ) → from ≤ y → y < m → sum (block k xs y) ≡ 0
+
 -- whether no number stands twice
 unfoldable pub distinct? : (xs : List ℕ) → Dec (Distinct xs)
 distinct? [] = yes tt
@@ -38,6 +43,11 @@ distinct? (x ∷ xs) = both? (absent? x xs) (distinct? xs)
 -- what the search for a repeat answers: Done where no bit stands twice, else BadSheet
 abbrev pub differing : List ℕ → Answer
 differing bits = pick (distinct? bits) (Done 0) BadSheet
+
+-- what a scan answers: BadSheet where the n bits noted are k and the last block in use is full, else the answer given
+abbrev pub closing : Bool → ℕ → ℕ → Answer → Answer
+closing true n k a = pick (ℕ-discrete n k) BadSheet a
+closing false n k a = a
 
 -- the look of stage 0 with this answer, these blocks and weights of the bits, and this first empty block
 abbrev pub lookOf : Answer → List ℕ → List ℕ → ℕ → Look

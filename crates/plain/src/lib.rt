@@ -1,20 +1,20 @@
 // The m blocks of a plain sheet, or of a staged one at stage 0: one scan, and the place of a change. Assumes nothing.
 use block::BlockState;
+use block::all_zero;
 use block::past_run;
 use block::run_blocks;
 use rules::Answer;
 use rules::Look;
+ghost use mathlib.Core.Bool.{true, false};
 ghost use mathlib.Core.Path.{_≡_};
-ghost use Prim.Native.Nat.{_+_, _*_, _≤_, _<_};
-ghost use native.Mathlib.Decide.{decLt};
+ghost use Prim.Native.Nat.{_+_, _*_, _/_, _≤_, _<_};
 ghost use mathlib.Core.List.{_++_};
 ghost use lib.ListN.{length, take, drop};
 ghost use Rattle.rules.specs.Cells.{Low, sum};
 ghost use Rattle.rules.specs.Plain.{states};
-ghost use Rattle.rules.specs.Search.{pick};
 ghost use Rattle.rules.specs.declared.Answer.the-variants.{BadSheet};
 ghost use Rattle.block.specs.Meaning.{asState};
-ghost use Rattle.plain.specs.Meaning.{Scanned, differing, lookOf, placeIn, parities};
+ghost use Rattle.plain.specs.Meaning.{EmptyFrom, Scanned, closing, differing, lookOf, placeIn, parities};
 
 // The place of a change: a block and the weight that it has on the bit's cycle, or none.
 pub enum Found {
@@ -78,14 +78,29 @@ fn state_at(cells: &[u8], k: usize, top: u8, j: usize) -> BlockState
     block::state_of(&cells[a..e], top)
 }
 
-// The first empty block once block j is one: the one found before, if any.
-fn first_empty(found: usize, j: usize, m: usize) -> usize
-    ensures { λ r. ⌜ r ≡ pick (decLt found m) found j ⌝ }
+// Whether every block from a number on is empty: past runs of zeros, the cells that are left are all 0. Where all is 0 these are few.
+fn rest_empty(cells: &[u8], k: usize, step: usize, from: usize, m: usize) -> bool
+    requires { ⌜ (1 ≤ k) × (step ≡ 64 / k) × (from ≤ m) × (m * k ≤ length (now cells)) × (length (now cells) ≤ 65536) ⌝ }
+    ensures { λ r. ⌜ (r ≡ true → EmptyFrom k (now (cells .entry)) from m) × (r ≡ false → ¬ (EmptyFrom k (now (cells .entry)) from m)) ⌝ }
 {
-    if found < m { found } else { j }
+    let j = past_run(cells, k, step, m, from, 0);
+    let a = j * k;
+    let e = m * k;
+    all_zero(&cells[a..e])
 }
 
-// One pass over the blocks, runs of full and of empty ones at a stride, left at the first broken block; then the search for a repeat.
+// The answer given, unless k bits are noted and the last block in use is full.
+fn check_last(full: bool, n: usize, k: usize, given: Answer) -> Answer
+    ensures { λ r. ⌜ r ≡ closing full n k given ⌝ }
+{
+    if full && n == k {
+        return Answer::BadSheet;
+    }
+    given
+}
+
+// One pass over the blocks: those in use one by one, full ones in runs, and at the first empty one all that come after it; then the search for a repeat.
+// k + 1 bits below k can't all differ, so no more are noted.
 pub fn scan_blocks(cells: &[u8], k: usize, top: u8, m: usize) -> Look
     requires { ⌜ (2 ≤ k) × (k ≤ 64) × (1 ≤ top) × (m * k ≤ length (now cells)) × (length (now cells) ≤ 65536) ⌝ }
     requires { ⌜ Low top (now cells) ⌝ }
@@ -97,23 +112,28 @@ pub fn scan_blocks(cells: &[u8], k: usize, top: u8, m: usize) -> Look
     let mut weights = [0u16; 64];
     let mut bits = [0u8; 65];
     let mut n: usize = 0;
+    let mut full = false;
     let mut next: usize = 0;
-    // k + 1 bits below k can't all differ, so no more are noted.
     while next < m && n <= k {
         let j = next;
         next += 1;
         match state_at(cells, k, top, j) {
             BlockState::Full => {
+                full = true;
                 next = past_run(cells, k, step, m, next, top);
                 continue;
             }
             BlockState::Empty => {
-                free = first_empty(free, j, m);
-                next = past_run(cells, k, step, m, next, 0);
+                if !rest_empty(cells, k, step, next, m) {
+                    return refused();
+                }
+                free = j;
+                next = m;
                 continue;
             }
             BlockState::Broken => return refused(),
             BlockState::Active(bit, weight) => {
+                full = false;
                 bits[n] = bit as u8;
                 n += 1;
                 places[bit] = j as u16;
@@ -121,7 +141,8 @@ pub fn scan_blocks(cells: &[u8], k: usize, top: u8, m: usize) -> Look
             }
         }
     }
-    look_of(check_repeats(bits, n), places, weights, free)
+    let answer = check_last(full, n, k, check_repeats(bits, n));
+    look_of(answer, places, weights, free)
 }
 
 // The place of a change of this bit: its block, or else the lowest-numbered empty one.

@@ -29,4 +29,4 @@ answerInto xs x = pick (ℕ-discrete (length xs) 7) (x .answer) BadShape
 
 -- the version of the C interface: a number more whenever a function, an answer or a place of the record is added or means something else
 abbrev pub version : ℕ
-version = 2
+version = 3

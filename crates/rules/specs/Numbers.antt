@@ -4,7 +4,7 @@ use mathlib.Core.List.{List, [], _∷_, _++_}
 use Prim.Native.Nat.{ℕ}
 use native.Mathlib.Decide.{ℕ-discrete, decLe, decLt}
 use lib.ListN.{replicate}
-use Rattle.rules.specs.Search.{pick, all?, first}
+use Rattle.rules.specs.Search.{pick, all?, some?, first}
 use Rattle.rules.specs.Cells.{firstAbove, same?, block, store}
 use Rattle.rules.specs.Block.{active, ramp, cycle, stateOf}
 use Rattle.rules.specs.Plain as P
@@ -126,8 +126,8 @@ odd-refused n = ap setupOf (pick-same (decLe n mostCells) refused)
 -- every number is what the definitions compute
 pub marked : Marked
 unfolding settingsCall changeCall readCall sound? readBit changeSheet genuine? sameSettings? guarantee acceptPlain acceptStaged stagesOf indexWidth firstAbove
-    P.sound? P.blocksOk? P.read P.change P.plan P.bitOf P.states S.read S.change S.readCells S.changeCells S.sheetOk? B.sound? B.decode B.batch B.entryOf B.number B.digits
-    stageOk? names? absent? changeWithin all? first same? block store stateOf cycle ramp ℕ-discrete decLe decLt
+    P.sound? P.blocksOk? P.packed? P.read P.change P.plan P.bitOf P.states S.read S.change S.readCells S.changeCells S.sheetOk? B.sound? B.decode B.batch B.entryOf B.number B.digits
+    stageOk? names? absent? changeWithin all? some? first same? block store stateOf cycle ramp ℕ-discrete decLe decLt
 marked = record {
   at2221 = refl;
   reads2221 = refl;

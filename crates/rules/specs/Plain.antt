@@ -1,10 +1,10 @@
--- Plain sheets: m blocks of k cells and then spare cells (01, "Plain rules"; the paper's D0 and E0). Assumes nothing.
+-- Plain sheets: m blocks of k cells and then spare cells (01, "Plain rules"; 02, K3; the paper's D0 and E0). Assumes nothing.
 use mathlib.Core.Path.{_≡_}
 use mathlib.Core.List.{List}
-use Prim.Native.Nat.{ℕ, _-_, _*_, _%_, _<_}
+use Prim.Native.Nat.{ℕ, zero, suc, _-_, _*_, _%_, _<_}
 use native.Mathlib.Decide.{ℕ-discrete}
 use lib.ListN.{drop, replicate}
-use Rattle.rules.specs.Search.{both?, not?, all?, Found, at, nowhere, first, Result, done, noPlace}
+use Rattle.rules.specs.Search.{pick, both?, three?, not?, all?, some?, Found, at, nowhere, first, Result, done, noPlace}
 use Rattle.rules.specs.Cells.{same?, block, store}
 use Rattle.rules.specs.Block.{State, empty, full, broken, active, stateOf, cellsOf, next}
 
@@ -38,6 +38,20 @@ isEmpty? full = no (λ e. e)
 isEmpty? broken = no (λ e. e)
 isEmpty? (active j v) = no (λ e. e)
 
+-- the block is full
+abbrev pub IsFull : State → Type 0
+IsFull empty = ⊥
+IsFull full = Unit {0}
+IsFull broken = ⊥
+IsFull (active j v) = ⊥
+
+-- whether it is
+abbrev pub isFull? : (s : State) → Dec (IsFull s)
+isFull? empty = no (λ e. e)
+isFull? full = yes tt
+isFull? broken = no (λ e. e)
+isFull? (active j v) = no (λ e. e)
+
 -- empty, full, or on a cycle
 abbrev pub OnCycle : State → Type 0
 OnCycle empty = Unit {0}
@@ -65,6 +79,14 @@ sameBit? empty t = no (λ e. e)
 sameBit? full t = no (λ e. e)
 sameBit? broken t = no (λ e. e)
 sameBit? (active i v) t = hasBit? i t
+
+-- an empty block and one that isn't empty
+abbrev pub Hole : State → State → Type 0
+Hole s t = IsEmpty s × ¬ (IsEmpty t)
+
+-- whether they are
+abbrev pub hole? : (s t : State) → Dec (Hole s t)
+hole? s t = both? (isEmpty? s) (not? (isEmpty? t))
 
 -- the sum of a block's levels; F = kL is the weight of a full block
 abbrev pub weight : ℕ → State → ℕ
@@ -128,15 +150,46 @@ AllOnCycle m st = (j : ℕ) → j < m → OnCycle (st j)
 abbrev pub NoRepeat : ℕ → (ℕ → State) → Type 0
 NoRepeat m st = (j : ℕ) → j < m → (x : ℕ) → x < j → ¬ (SameBit (st x) (st j))
 
+-- no empty block stands before one that isn't empty
+abbrev pub NoHole : ℕ → (ℕ → State) → Type 0
+NoHole m st = (j : ℕ) → j < m → (x : ℕ) → x < j → ¬ (Hole (st x) (st j))
+
+-- all k bits have active blocks
+abbrev pub AllActive : ℕ → ℕ → (ℕ → State) → Type 0
+AllActive k m st = (i : ℕ) → i < k → (j : ℕ) × (j < m) × HasBit i (st j)
+
+-- the last block that isn't empty; empty where there is none
+abbrev pub lastUsed : (ℕ → State) → ℕ → State
+lastUsed st zero = empty
+lastUsed st (suc m) = pick (isEmpty? (st m)) (lastUsed st m) (st m)
+
+-- all k bits have active blocks and the last block that isn't empty is full
+abbrev pub FullLast : ℕ → ℕ → (ℕ → State) → Type 0
+FullLast k m st = AllActive k m st × IsFull (lastUsed st m)
+
+-- whether they do and it is
+abbrev pub fullLast? : (k m : ℕ) (st : ℕ → State) → Dec (FullLast k m st)
+fullLast? k m st = both? (all? (λ i. some? (λ j. hasBit? i (st j)) m) k) (isFull? (lastUsed st m))
+
+-- there is no hole, and not all k bits have active blocks with a full block last
+abbrev pub Packed : ℕ → ℕ → (ℕ → State) → Type 0
+Packed k m st = NoHole m st × ¬ (FullLast k m st)
+
+-- whether it is so
+unfoldable pub packed? : (k m : ℕ) (st : ℕ → State) → Dec (Packed k m st)
+packed? k m st =
+    both? (all? (λ j. all? (λ x. not? (hole? (st x) (st j))) j) m) (not? (fullLast? k m st))
+
 -- the blocks keep the rules
 abbrev pub BlocksOk : ℕ → ℕ → ℕ → List ℕ → Type 0
-BlocksOk k L m xs = AllOnCycle m (states k L xs) × NoRepeat m (states k L xs)
+BlocksOk k L m xs = AllOnCycle m (states k L xs) × NoRepeat m (states k L xs) × Packed k m (states k L xs)
 
 -- whether they do
 unfoldable pub blocksOk? : (k L m : ℕ) (xs : List ℕ) → Dec (BlocksOk k L m xs)
 blocksOk? k L m xs =
-    both? (all? (λ j. onCycle? (states k L xs j)) m)
+    three? (all? (λ j. onCycle? (states k L xs j)) m)
     (all? (λ j. all? (λ x. not? (sameBit? (states k L xs x) (states k L xs j))) j) m)
+    (packed? k m (states k L xs))
 
 -- the cells from a on, up to n, are 0
 abbrev pub Spare : ℕ → ℕ → List ℕ → Type 0

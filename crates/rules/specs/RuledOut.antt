@@ -4,7 +4,7 @@ use mathlib.Core.List.{List, [], _∷_, _++_}
 use Prim.Native.Nat.{ℕ}
 use native.Mathlib.Decide.{ℕ-discrete, decLe, decLt}
 use lib.ListN.{replicate}
-use Rattle.rules.specs.Search.{all?, first}
+use Rattle.rules.specs.Search.{all?, some?, first}
 use Rattle.rules.specs.Cells.{firstAbove, same?, block, store}
 use Rattle.rules.specs.Block.{ramp, cycle, stateOf}
 use Rattle.rules.specs.Plain as P
@@ -16,11 +16,23 @@ use Rattle.rules.specs.Calls.{eraseCall, changeCall, readCall, sound?, r
 use Rattle.rules.specs.Records.{checkForm, checkUnused, checkHeld, recordStep, sumHeld, bitsHeld, placesHeld}
 use Rattle.rules.specs.declared.Settings.{Settings}
 use Rattle.rules.specs.declared.Answer.{Answer}
-use Rattle.rules.specs.declared.Answer.the-variants.{Done, BadShape, BadLength, ShortOutput, BadBit, BadLevel, Erase, BadRecord}
+use Rattle.rules.specs.declared.Answer.the-variants.{Done, BadShape, BadLength, ShortOutput, BadBit, BadLevel, BadSheet, Erase, BadRecord}
 
 -- plain, k = 2, L = 1, n = 5: two blocks and a spare cell
 abbrev plain5 : Settings
 plain5 = accept 0 2 1 5
+
+-- plain, k = 2, L = 1, n = 6: three blocks
+abbrev plain6 : Settings
+plain6 = accept 0 2 1 6
+
+-- plain, k = 2, L = 1, n = 10: five blocks
+abbrev plain10 : Settings
+plain10 = accept 0 2 1 10
+
+-- staged, k = 4, L = 2, n = 32: five blocks, and batch 1 from cell 20
+abbrev staged32 : Settings
+staged32 = accept 1 4 2 32
 
 -- staged, k = 4, L = 2, n = 28: four blocks, and batch 1 from cell 16
 abbrev staged28 : Settings
@@ -56,6 +68,18 @@ cells a b c d e = a ∷ b ∷ c ∷ d ∷ e ∷ []
 abbrev Kept : List ℕ → ℕ → Answer → Type 0
 Kept xs i a = changeCall plain5 xs i ≡ record { answer = a; sheet = xs }
 
+-- a reading of two bits is refused with BadSheet, and leaves their places
+abbrev Unread : Settings → List ℕ → Type 0
+Unread r xs = readCall r xs (9 ∷ 9 ∷ []) ≡ record { answer = BadSheet; places = 9 ∷ 9 ∷ [] }
+
+-- a change of bit 0 is refused with BadSheet, and leaves the sheet as it was
+abbrev Unchanged : Settings → List ℕ → Type 0
+Unchanged r xs = changeCall r xs 0 ≡ record { answer = BadSheet; sheet = xs }
+
+-- the staged sheet of five blocks with these levels in the first cells of its four cycles and this level in its last block
+abbrev fiveBlocks : ℕ → ℕ → ℕ → ℕ → ℕ → List ℕ
+fiveBlocks a b c d e = a ∷ replicate 4 0 ++ (b ∷ replicate 4 0 ++ (c ∷ replicate 4 0 ++ (d ∷ replicate 4 e ++ replicate 12 0)))
+
 pub record RuledOut : Type 0 where
   -- erase does not clear the blocks only: the spare cell too is set to 0
   pub erasesAll : eraseCall plain5 (cells 1 1 0 1 9) ≡ record { answer = Done 3; sheet = replicate 5 0 }
@@ -71,6 +95,30 @@ pub record RuledOut : Type 0 where
   pub levelNext : Kept (cells 0 0 2 0 3) 0 (BadLevel 2)
   -- the lowest-numbered empty block is taken, and not the second
   pub lowestEmpty : changeCall plain5 (replicate 5 0) 1 ≡ record { answer = Done 1; sheet = cells 0 1 0 0 0 }
+  -- an empty block before one that isn't empty is not read: 00 10
+  pub holeUnread : Unread plain5 (cells 0 0 1 0 0)
+  -- it is not changed either
+  pub holeUnchanged : Unchanged plain5 (cells 0 0 1 0 0)
+  -- a full block after an empty one is a hole too: 00 11
+  pub holeBeforeFull : Unread plain5 (cells 0 0 1 1 0)
+  -- empty blocks after the last one in use are no hole: 10 00
+  pub noHole : readCall plain5 (cells 1 0 0 0 0) (9 ∷ 9 ∷ []) ≡ record { answer = Done 1; places = 1 ∷ 0 ∷ [] }
+  -- all k bits have active blocks and the last block that isn't empty is full: 10 01 11
+  pub fullLast : Unread plain6 (1 ∷ cells 0 0 1 1 1)
+  -- the last block that isn't empty is not block m - 1, and an active one may stand at any number: 11 10 01 11 00
+  pub fullThenEmpty : Unread plain10 (1 ∷ 1 ∷ 1 ∷ 0 ∷ 0 ∷ cells 1 1 1 0 0)
+  -- a full block before the last one in use is accepted: 10 11 01
+  pub fullBefore : readCall plain6 (1 ∷ cells 0 1 1 0 1) (9 ∷ 9 ∷ []) ≡ record { answer = Done 2; places = 1 ∷ 1 ∷ [] }
+  -- one bit without an active block, and the full block last is accepted: 10 11 00
+  pub oneBitLess : readCall plain6 (1 ∷ cells 0 1 1 0 0) (9 ∷ 9 ∷ []) ≡ record { answer = Done 1; places = 1 ∷ 0 ∷ [] }
+  -- at stage 0 of a staged sheet a hole is refused too: 1000 0000 0010 0001 0000
+  pub stagedHole : Unchanged staged32 (fiveBlocks 1 0 1 1 0)
+  -- and a full block last after k active ones: 1000 0100 0010 0001 2222
+  pub stagedFullLast : Unchanged staged32 (fiveBlocks 1 1 1 1 2)
+  -- also where an active block's value is 0: 2000 0100 0010 0001 2222
+  pub stagedZeroFullLast : Unchanged staged32 (fiveBlocks 2 1 1 1 2)
+  -- where that block is empty the sheet is accepted, and bit 0 takes its next step: 1000 0100 0010 0001 0000
+  pub stagedEmptyLast : changeCall staged32 (fiveBlocks 1 1 1 1 0) 0 ≡ record { answer = Done 1; sheet = fiveBlocks 2 1 1 1 0 }
   -- where there is no place the sheet stays as it was
   pub noPlace : Kept (cells 1 1 0 1 0) 0 Erase
   -- a move goes to the next stage, here 1, and not to a later one in which at least k parity blocks aren't full too: 4 levels in the blocks, and the digits of 1 to 8
@@ -113,8 +161,8 @@ pub record RuledOut : Type 0 where
 -- every example is what the definitions compute
 pub ruled-out : RuledOut
 unfolding eraseCall changeCall readCall sound? readBit changeSheet genuine? sameSettings? guarantee reported batchStart acceptPlain acceptStaged stagesOf indexWidth firstAbove recordStep checkForm checkUnused checkHeld
-    P.sound? P.blocksOk? P.read P.change P.plan P.bitOf P.states S.read S.change S.readCells S.changeCells S.sheetOk? B.sound? B.decode B.batch B.entryOf B.number B.digits
-    stageOk? names? absent? changeWithin all? first same? block store stateOf cycle ramp ℕ-discrete decLe decLt
+    P.sound? P.blocksOk? P.packed? P.read P.change P.plan P.bitOf P.states S.read S.change S.readCells S.changeCells S.sheetOk? B.sound? B.decode B.batch B.entryOf B.number B.digits
+    stageOk? names? absent? changeWithin all? some? first same? block store stateOf cycle ramp ℕ-discrete decLe decLt
 ruled-out = record {
   erasesAll = refl;
   erasesNothing = refl;
@@ -123,6 +171,18 @@ ruled-out = record {
   bitNext = refl;
   levelNext = refl;
   lowestEmpty = refl;
+  holeUnread = refl;
+  holeUnchanged = refl;
+  holeBeforeFull = refl;
+  noHole = refl;
+  fullLast = refl;
+  fullThenEmpty = refl;
+  fullBefore = refl;
+  oneBitLess = refl;
+  stagedHole = refl;
+  stagedFullLast = refl;
+  stagedZeroFullLast = refl;
+  stagedEmptyLast = refl;
   noPlace = refl;
   nextStage = refl;
   stagePassed = refl;

@@ -39,6 +39,17 @@ unfoldable pub all? : {P : ℕ → Type 0} → ((j : ℕ) → Dec (P j)) → (m 
 all? p zero = yes (λ j l. absurd (not-suc-le-zero l))
 all? p (suc m) = allMore m (all? p m) (p m)
 
+-- some place below m + 1, from one below m or m itself
+abbrev someMore : {P : ℕ → Type 0} (m : ℕ) → Dec ((j : ℕ) × (j < m) × P j) → Dec (P m) → Dec ((j : ℕ) × (j < suc m) × P j)
+someMore m (yes (j, l, h)) d = yes (j, omega arith, h)
+someMore m (no a) (yes h) = yes (m, le-refl (suc m), h)
+someMore {P} m (no a) (no h) = no (λ (j, l, q). ⊎-elim (λ e. h (subst P e q)) (λ b. a (j, b, q)) (eq-or-lt-of-le (le-of-suc-le-suc l)))
+
+-- some place below m
+unfoldable pub some? : {P : ℕ → Type 0} → ((j : ℕ) → Dec (P j)) → (m : ℕ) → Dec ((j : ℕ) × (j < m) × P j)
+some? p zero = no (λ (j, l, h). not-suc-le-zero l)
+some? p (suc m) = someMore m (some? p m) (p m)
+
 -- a place, or none
 pub data Found : Type 0 where
   at : ℕ → Found

@@ -126,6 +126,7 @@ module _ (r : Settings) (p : StagedFacts r) (f : List ℕ) (v : Levelled r f) (a
           long = n;
           low = low-take (r .top) (r .m * 2 ^ r .s) f (v .low);
           lawful = Q.blocks-lawful (2 ^ r .s) (r .top) (r .m) (take (r .m * 2 ^ r .s) f) (pow-pos (r .s)) (p .top-least) (to-rules r p f v c e ok);
+          packed = to-rules r p f v c e ok .2;
           spare = drop-of-length-le (take (r .m * 2 ^ r .s) f) {i = r .m * 2 ^ r .s} (omega arith) ∙ ap (λ (x : ℕ). replicate x 0) (sym (sub-self (r .m * 2 ^ r .s)));
         }
 

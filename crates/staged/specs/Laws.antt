@@ -1,5 +1,4 @@
 -- Laws of index blocks, of cells filled one by one, of a block as a part of the cells, of the stage and of the later stage. Assumes nothing.
-use mathlib.Core.Bool.{true, false}
 use mathlib.Core.List.{List, [], _++_, _∷_, append-assoc, append-nil}
 use mathlib.Core.Path.{_∙_, _≡_, ap, refl, subst, sym}
 use Prim.Native.Nat.{_%_, _*_, _+_, _-_, _/_, _<_, _^_, _≤_, suc, zero, ℕ}
@@ -12,15 +11,14 @@ use lib.Seq.{drop-drop, drop-length, length-take-le, take-suc}
 use Rattle.laws.specs.Cut.{block-fits}
 use Rattle.laws.specs.Splice.{part, part-part}
 use Rattle.laws.specs.Index.{digits-low, digits-num, length-digits, num-digits, num-full, num-lt, pow-pos′}
-use Rattle.laws.specs.Lists.{low-append, low-replicate, low-take, sum-replicate}
+use Rattle.laws.specs.Lists.{low-append, low-replicate, low-take}
 use Rattle.laws.specs.Live.{count-full, run-keeps}
 use Rattle.block.specs.Meaning.{RunFrom}
 use Rattle.block.specs.RunLaws.{part-nothing, past-full}
-use Rattle.block.specs.StateLaws.{sum-zero}
 use Rattle.rules.specs.Batches.{batch, batchCells, digits, entryOf, number}
 use Rattle.rules.specs.Cells.{Low, block, chop, same?, store, sum}
 use Rattle.rules.specs.Search.{Found, at, done, first, nowhere, pick}
-use Rattle.rules.specs.SearchLaws.{First, miss, first-eq, first-is, first-unique, pick-elim, pick-no, pick-yes}
+use Rattle.rules.specs.SearchLaws.{First, miss, first-eq, first-is, first-unique, pick-no, pick-yes}
 use Rattle.rules.specs.Stage.{closed, index, liveWeights}
 use Rattle.rules.specs.Staged.{later, liveCount, moveTo, parityCount, parityLength}
 use Rattle.staged.specs.Meaning.{laterFrom, laterLeft, moved, stageLeft}
@@ -145,23 +143,6 @@ count-past len L from to cells l h f =
     (λ x a b e. count-full (len * L) len x cells (past-full len L from to cells l f x a b) ∙ e) refl
 
 -- ---- the stage
-
--- what a look for a cell above 0 tells of the sum
-pub zero-sum : (b : List ℕ) → pick (same? b (replicate (length b) 0)) true false ≡ true → sum b ≡ 0
-zero-sum b =
-    pick-elim (λ t. t ≡ true → sum b ≡ 0) (same? b (replicate (length b) 0)) true false
-    (λ e h. let z : sum b ≡ sum (replicate (length b) 0) = ap sum e in omega (arith, sum-replicate (length b) 0))
-    (λ n h. let z : _≡_ {A = ℕ} 0 1 = cc in absurd (omega arith))
-
-pub some-sum : (b : List ℕ) → pick (same? b (replicate (length b) 0)) true false ≡ false → 0 < sum b
-some-sum b =
-    pick-elim (λ t. t ≡ false → 0 < sum b) (same? b (replicate (length b) 0)) true false
-    (λ e h. let z : _≡_ {A = ℕ} 0 1 = cc in absurd (omega arith))
-    (λ n h. go (decLt 0 (sum b)) n)
-  where
-    go : Dec (0 < sum b) → ¬ (b ≡ replicate (length b) 0) → 0 < sum b
-    go (yes l) n = l
-    go (no l) n = absurd (n (sum-zero b (omega arith)))
 
 -- whoever shows what an answer means has the stage
 pub stage-is : (w n : ℕ) (xs : List ℕ) {f : Found} → First (λ d. 0 < sum (block w xs (n - 1 - d))) n f → f ≡ stageLeft w n xs

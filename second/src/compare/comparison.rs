@@ -138,7 +138,7 @@ impl<'a> Comparison<'a> {
         )
     }
 
-    /// Sets cells to 0, then lowers them to 1, as long as the case still differs.
+    /// Sets cells to 0, the last ones first, then lowers them to 1, as long as the case still differs.
     fn shrink(&mut self, smallest: &mut Difference) {
         let mut case = smallest.case.clone();
         if case.call == Call::Settings || !self.replay(&case).0 {
@@ -148,7 +148,7 @@ impl<'a> Comparison<'a> {
         for level in [0, 1] {
             let mut length = case.sheet.len().next_power_of_two();
             while length > 0 && attempts < ATTEMPTS {
-                for first in (0..case.sheet.len()).step_by(length) {
+                for first in (0..case.sheet.len()).step_by(length).rev() {
                     let last = (first + length).min(case.sheet.len());
                     attempts += 1;
                     self.lower(&mut case, first..last, level);

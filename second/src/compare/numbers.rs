@@ -72,12 +72,23 @@ fn settings_give(comparison: &mut Comparison, asked: [usize; 4], guarantee: Opti
     });
 }
 
+/// The settings and sheets with the block at each place, full blocks before it and empty ones after.
+fn at_each_place(block: &str) -> (Settings, Vec<(usize, Vec<u8>)>) {
+    let settings = Settings::asked([0, 4, 2, 16]);
+    let sheet_of = |place| {
+        let first = place * settings.k;
+        let mut sheet = vec![0; settings.n];
+        sheet[..first].fill(settings.top as u8);
+        sheet[first..first + settings.k].copy_from_slice(&cells(block));
+        (first, sheet)
+    };
+    (settings, (0..settings.m).map(sheet_of).collect())
+}
+
 /// At each place of the sheet the block holds its bit and value, and takes its next step.
 fn on_a_cycle(comparison: &mut Comparison, block: &str, bit: usize, value: u8, next: &str) {
-    let settings = Settings::asked([0, 4, 2, 16]);
-    for first in [0, 4, 8, 12] {
-        let mut sheet = vec![0; 16];
-        sheet[first..first + 4].copy_from_slice(&cells(block));
+    let (settings, sheets) = at_each_place(block);
+    for (first, mut sheet) in sheets {
         let mut case = Case::on(Call::Read, &settings, &sheet);
         says(comparison, &case, 0, value.into());
         let mut bits = [0; 4];
@@ -94,10 +105,8 @@ fn on_a_cycle(comparison: &mut Comparison, block: &str, bit: usize, value: u8, n
 
 /// The block is BadSheet for both calls.
 fn on_no_cycle(comparison: &mut Comparison, block: &str) {
-    let settings = Settings::asked([0, 4, 2, 16]);
-    for first in [0, 4, 8, 12] {
-        let mut sheet = vec![0; 16];
-        sheet[first..first + 4].copy_from_slice(&cells(block));
+    let (settings, sheets) = at_each_place(block);
+    for (_, sheet) in sheets {
         for call in [Call::Read, Call::Change] {
             says(comparison, &Case::on(call, &settings, &sheet), 6, 0);
         }

@@ -4,7 +4,7 @@ use super::comparison::{Comparison, Difference, Tally};
 use super::impostor::Impostor;
 use super::library::{Library, Model};
 use super::programs::{compare_programs, show, Program};
-use super::{calls, forged, moves, numbers, refusals, runs, settings, tiny};
+use super::{calls, forged, moves, numbers, packed, refusals, runs, settings, tiny};
 use crate::Flaw;
 
 /// How much is run.
@@ -48,7 +48,7 @@ pub struct Group {
 /// A group of cases: its name and its work.
 type Cases = (&'static str, fn(&mut Comparison, &Plan));
 
-const GROUPS: [Cases; 8] = [
+const GROUPS: [Cases; 9] = [
     ("numbers", |comparison, _| numbers::numbers(comparison)),
     ("settings", |comparison, plan| {
         settings::settings(comparison, plan.size)
@@ -60,6 +60,9 @@ const GROUPS: [Cases; 8] = [
         refusals::refusals(comparison, plan.seed, plan.rounds(6, 60));
     }),
     ("tiny", |comparison, plan| tiny::tiny(comparison, plan.size)),
+    ("packed", |comparison, plan| {
+        packed::packed(comparison, plan.size)
+    }),
     ("moves", |comparison, plan| {
         moves::moves(comparison, plan.seed, plan.rounds(1_000, 20_000));
     }),
@@ -172,14 +175,20 @@ fn told(name: &str, differences: u64, passed: bool) -> Group {
     }
 }
 
-/// Whether the drive program's lines can show the flaw: its sheet is never refused, and a line
-/// shows no index.
+/// Whether the drive program's lines can show the flaw: changes alone make its sheet, which is never
+/// refused, and a line shows no index.
 fn shows(flaw: Flaw) -> bool {
     ![
         Flaw::LastBadLevel,
         Flaw::SpareIgnored,
         Flaw::BitAfterLevel,
         Flaw::DigitsLowFirst,
+        Flaw::OrderIgnored,
+        Flaw::StagedOrderIgnored,
+        Flaw::HoleAccepted,
+        Flaw::HoleBeforeFull,
+        Flaw::FullLastAccepted,
+        Flaw::LastByNumber,
     ]
     .contains(&flaw)
 }

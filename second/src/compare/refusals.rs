@@ -38,7 +38,13 @@ pub fn refusals(comparison: &mut Comparison, seed: u64, rounds: usize) {
 fn broken(random: &mut Random, settings: &Settings, sheet: &[u8]) -> Vec<Vec<u8>> {
     let mut sheets = vec![sheet.to_vec()];
     for _ in 0..200 {
-        let damage = random.one_of(&[Damage::Cell, Damage::Index, Damage::Spare]);
+        let damage = random.one_of(&[
+            Damage::Cell,
+            Damage::Index,
+            Damage::Spare,
+            Damage::Hole,
+            Damage::FullLast,
+        ]);
         let Some(damaged) = damage.apply(random, settings, sheet) else {
             continue;
         };

@@ -1,4 +1,5 @@
 -- `plain::scan_blocks` meets its contract: at block j the bits of the active blocks below j are noted, and where they differ all is known of those blocks. Assumes nothing.
+use mathlib.Core.Bool.{true}
 use mathlib.Core.Logic.{⊎-elim}
 use mathlib.Core.Path.{_≡_, _∙_, ap, subst, sym}
 use Prim.Native.Nat.{ℕ, _+_, _-_, _*_, _≤_, _<_}
@@ -6,26 +7,28 @@ use native.Mathlib.Nat.{mul-le-mul}
 use native.Mathlib.Numerals.{add-one}
 use native.Mathlib.Omega.{arith}
 use borrow.Author.Needs.{needs}
-use borrow.Author.Tests.{leb-false, leb-true}
+use borrow.Author.Tests.{leb-false, leb-true, not-false, not-true}
 use lib.ListN.{length, take, set, length-set}
 use lib.Seq.{take-suc-set}
 use Rattle.laws.specs.Cut.{blocks-cells}
 use Rattle.block.specs.Meaning.{asState}
 use Rattle.rules.specs.Block.{State, active}
-use Rattle.rules.specs.Plain.{states}
+use Rattle.rules.specs.Plain.{IsEmpty, states}
 use Rattle.rules.specs.declared.Answer.{Answer}
-use Rattle.plain.specs.Meaning.{Scanned, lookOf}
-use Rattle.plain.specs.Laws.{Noted, active-below, block-end, first-below, known-empty, known-full, known-past-empty, known-past-full, noted-active, noted-none, noted-on, scan-broken, scan-decided}
+use Rattle.plain.specs.Meaning.{Scanned, closing, lookOf}
+use Rattle.plain.specs.Laws.{Known, Noted, active-below, block-end, empty-rest, known-full, known-rest, noted-active, noted-none, noted-on, past-all, rest-weights, scan-broken, scan-decided, scan-hole}
+use Rattle.plain.specs.OrderLaws.{Ordered, order-active, order-empty, order-full, order-none}
 use Rattle.plain.proofs.scan_blocks.Statement.{statement}
 use Rattle.plain.proofs.scan_blocks.Tie as tie
 
--- where the bits noted differ, all is known of the blocks below j
+-- where the bits noted differ, all is known of the blocks below j; those in use stand first
 abbrev Inv-loop : tie.InvT-loop
-Inv-loop cells k top m step free₀ places₀ weights₀ bits₀ n₀ next₀ free places weights bits n next =
-    (next ≤ m) × (n ≤ k + 1) × (length places ≡ 64) × (length weights ≡ 64) × (length bits ≡ 65) × Noted k m (states k top cells) next free places weights (take n bits)
+Inv-loop cells k top m step free₀ places₀ weights₀ bits₀ n₀ full₀ next₀ free places weights bits n full next =
+    (next ≤ m) × (n ≤ k + 1) × (length places ≡ 64) × (length weights ≡ 64) × (length bits ≡ 65)
+    × Noted k m (states k top cells) next places weights (take n bits) × Ordered (states k top cells) m next free full
 
 abbrev μ-loop : tie.MeasureT-loop
-μ-loop cells k top m step free₀ places₀ weights₀ bits₀ n₀ next₀ free places weights bits n next = m - next
+μ-loop cells k top m step free₀ places₀ weights₀ bits₀ n₀ full₀ next₀ free places weights bits n full next = m - next
 
 -- the state that was found is the state of block j
 state-is : (c : tie.After-state-at Inv-loop μ-loop) (s : State) → asState (c .state-at .result) ≡ s
@@ -84,7 +87,7 @@ cast-places c =
 loop-holds : tie.Need-loop-holds Inv-loop μ-loop
 loop-holds c =
     let a = c .before .before .args in
-    (search needs, search needs, search needs, search needs, search needs, noted-none (a .k) (a .m) (states (a .k) (a .top) (a .cells .now)) (omega arith))
+    (search needs, search needs, search needs, search needs, search needs, noted-none (a .k) (a .m) (states (a .k) (a .top) (a .cells .now)) (omega arith), order-none (states (a .k) (a .top) (a .cells .now)) (a .m))
 
 add-next : tie.Need-add-next Inv-loop μ-loop
 add-next c = search needs
@@ -110,6 +113,7 @@ loop-again c =
     let t = c .before in
     let o = t .before .before .before .before .before in
     let a = o .before .before .before .args in
+    let st = states (a .k) (a .top) (a .cells .now) in
     let e = state-is (t .before .before) _ (ap asState (t .enum-told .given .1)) in
     let run = c .past-run .ensures in (
       search needs,
@@ -117,50 +121,60 @@ loop-again c =
       search needs,
       search needs,
       search needs,
-      noted-on (o .loop .inv .5) (λ g. known-past-full (a .k) (a .top) (a .m) (a .cells .now) (omega arith) (omega arith) (omega arith) (o .before .before .before .pre .1) (known-full g e) (run .0) (run .1) (run .2)),
+      noted-on (o .loop .inv .5) (λ g. past-all (a .k) (a .top) (a .m) (a .cells .now) (omega arith) (omega arith) (omega arith) (o .before .before .before .pre .1) (λ y. Known (a .k) (a .m) st y (o .loop .places) (o .loop .weights) (take (o .loop .n) (o .loop .bits))) (run .0) (run .1) (run .2) (λ y l q h. known-full h q) (known-full g e)),
+      past-all (a .k) (a .top) (a .m) (a .cells .now) (omega arith) (omega arith) (omega arith) (o .before .before .before .pre .1) (λ y. Ordered st (a .m) y (o .loop .free) true) (run .0) (run .1) (run .2) (λ y l q h. order-full h l q) (order-full (o .loop .inv .6) (omega arith) e),
     )
 
 enum-told-2 : tie.Need-enum-told-2 Inv-loop μ-loop
 enum-told-2 c = search needs
 
-first-empty-requires : tie.Need-first-empty-requires Inv-loop μ-loop
-first-empty-requires c κs = search needs
-
-past-run-requires-2 : tie.Need-past-run-requires-2 Inv-loop μ-loop
-past-run-requires-2 c κs = search needs
-
-loop-less-2 : tie.Need-loop-less-2 Inv-loop μ-loop
-loop-less-2 c = search needs
-
-loop-again-2 : tie.Need-loop-again-2 Inv-loop μ-loop
-loop-again-2 c =
-    let t = c .before .before in
-    let o = t .before .before .before .before .before in
-    let a = o .before .before .before .args in
-    let e = state-is (t .before .before) _ (ap asState (t .enum-told2 .given .1)) in
-    let l : o .loop .next < a .m = omega arith in
-    let run = c .past-run2 .ensures in (
-      search needs,
-      search needs,
-      search needs,
-      search needs,
-      search needs,
-      rw (c .before .first-empty .ensures)
-          (noted-on (o .loop .inv .5) (λ g. known-past-empty (a .k) (a .top) (a .m) (a .cells .now) (omega arith) (omega arith) (omega arith) (o .before .before .before .pre .1) (known-empty g e l) (run .0) (run .1) (first-below (o .loop .free) (o .loop .next) (a .m) l) (run .2))),
-    )
-
-enum-told-3 : tie.Need-enum-told-3 Inv-loop μ-loop
-enum-told-3 c = search needs
+rest-empty-requires : tie.Need-rest-empty-requires Inv-loop μ-loop
+rest-empty-requires c κs = search needs
 
 refused-requires : tie.Need-refused-requires Inv-loop μ-loop
 refused-requires c κs = search needs
 
 returns : tie.Need-returns Inv-loop μ-loop
 returns c =
+    let r = c .before .before in
+    let t = r .before in
+    let o = t .before .before .before .before .before in
+    let a = o .before .before .before .args in
+    scan-hole (a .k) (a .top) (a .m) (o .loop .next) (a .cells .now) _ (c .refused .ensures) (omega arith) (state-is (t .before .before) _ (ap asState (t .enum-told2 .given .1)))
+    (λ h. r .rest-empty .ensures .1 (not-true _ (c .before .if2 .taken)) (rest-weights (a .k) (a .top) (a .m) (a .cells .now) (omega arith) (omega arith) (omega arith) (o .before .before .before .pre .1) h))
+
+loop-less-2 : tie.Need-loop-less-2 Inv-loop μ-loop
+loop-less-2 c = search needs
+
+loop-again-2 : tie.Need-loop-again-2 Inv-loop μ-loop
+loop-again-2 c =
+    let r = c .before in
+    let t = r .before in
+    let o = t .before .before .before .before .before in
+    let a = o .before .before .before .args in
+    let e = state-is (t .before .before) _ (ap asState (t .enum-told2 .given .1)) in
+    let rest = empty-rest (a .k) (a .top) (a .m) (a .cells .now) (omega arith) (omega arith) (omega arith) (o .before .before .before .pre .1) e (r .rest-empty .ensures .0 (not-false _ (c .if2 .left))) in (
+      search needs,
+      search needs,
+      search needs,
+      search needs,
+      search needs,
+      noted-on (o .loop .inv .5) (known-rest (omega arith) rest),
+      order-empty (o .loop .inv .6) (omega arith) (λ y l q. subst IsEmpty (sym (rest y l q)) tt),
+    )
+
+enum-told-3 : tie.Need-enum-told-3 Inv-loop μ-loop
+enum-told-3 c = search needs
+
+refused-requires-2 : tie.Need-refused-requires-2 Inv-loop μ-loop
+refused-requires-2 c κs = search needs
+
+returns-2 : tie.Need-returns-2 Inv-loop μ-loop
+returns-2 c =
     let t = c .before in
     let o = t .before .before .before .before .before in
     let a = o .before .before .before .args in
-    scan-broken (a .k) (a .top) (a .m) (o .loop .next) (a .cells .now) _ (c .refused .ensures) (omega arith)
+    scan-broken (a .k) (a .top) (a .m) (o .loop .next) (a .cells .now) _ (c .refused2 .ensures) (omega arith)
     (state-is (t .before .before) _ (ap asState (t .enum-told3 .given .1)))
 
 enum-known-bit : tie.Need-enum-known-bit Inv-loop μ-loop
@@ -210,23 +224,29 @@ loop-again-3 c =
       simp length-set (omega arith),
       simp length-set (omega arith),
       simp length-set (omega arith),
-      subst (Noted (a .k) (a .m) _ (o .loop .next + 1) (o .loop .free) (set (o .loop .places) (bit c) (o .loop .next)) (set (o .loop .weights) (bit c) (weight c)))
+      subst (Noted (a .k) (a .m) _ (o .loop .next + 1) (set (o .loop .places) (bit c) (o .loop .next)) (set (o .loop .weights) (bit c) (weight c)))
           (rw (add-one (o .loop .n), take-suc-set (o .loop .bits) (o .loop .n) (bit c) w))
           (noted-active (o .loop .inv .5) (bit c) (weight c) (active-is c) (omega arith) (bit-below c) p q),
+      order-active (o .loop .inv .6) (omega arith) (active-is c),
     )
 
 check-repeats-requires : tie.Need-check-repeats-requires Inv-loop μ-loop
 check-repeats-requires c κs = search needs
 
+check-last-requires : tie.Need-check-last-requires Inv-loop μ-loop
+check-last-requires c κs = search needs
+
 look-of-requires : tie.Need-look-of-requires Inv-loop μ-loop
 look-of-requires c κs = search needs
 
-returns-2 : tie.Need-returns-2 Inv-loop μ-loop
-returns-2 c =
-    let o = c .before .before .before in
+returns-3 : tie.Need-returns-3 Inv-loop μ-loop
+returns-3 c =
+    let r = c .before .before in
+    let o = r .before .before in
     let a = o .before .before .before .args in
-    subst (Scanned (a .k) (a .top) (a .m) (a .cells .now)) (sym (c .look-of .ensures ∙ ap (λ (r : Answer). lookOf r (o .loop .places) (o .loop .weights) (o .loop .free)) (c .before .check-repeats .ensures)))
-    (scan-decided (a .k) (a .top) (a .m) (o .loop .n) (a .cells .now) (o .loop .bits) (o .loop .inv .5) (omega arith) (whole (c .before .before)) (omega arith))
+    let e = c .before .check-last .ensures ∙ ap (closing (o .loop .full) (o .loop .n) (a .k)) (r .check-repeats .ensures) in
+    subst (Scanned (a .k) (a .top) (a .m) (a .cells .now)) (sym (c .look-of .ensures ∙ ap (λ (r : Answer). lookOf r (o .loop .places) (o .loop .weights) (o .loop .free)) e))
+    (scan-decided (a .k) (a .top) (a .m) (o .loop .n) (a .cells .now) (o .loop .bits) (o .loop .full) (o .loop .inv .5) (o .loop .inv .6) (omega arith) (whole (r .before)) (omega arith))
 
 pub scan-blocks-spec : {M : Type 1} → statement M
 scan-blocks-spec =
@@ -244,13 +264,14 @@ scan-blocks-spec =
     loop-less
     loop-again
     enum-told-2
-    first-empty-requires
-    past-run-requires-2
+    rest-empty-requires
+    refused-requires
+    returns
     loop-less-2
     loop-again-2
     enum-told-3
-    refused-requires
-    returns
+    refused-requires-2
+    returns-2
     enum-known-bit
     cast-bits
     array-write-bits
@@ -264,5 +285,6 @@ scan-blocks-spec =
     loop-less-3
     loop-again-3
     check-repeats-requires
+    check-last-requires
     look-of-requires
-    returns-2)
+    returns-3)

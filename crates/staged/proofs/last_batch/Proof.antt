@@ -9,7 +9,8 @@ use Rattle.rules.specs.Cells.{block, sum}
 use Rattle.rules.specs.Search.{nowhere}
 use Rattle.rules.specs.SearchLaws.{First, first-hit, first-miss, first-none}
 use Rattle.laws.specs.Cut.{block-fits, part-block}
-use Rattle.staged.specs.Laws.{some-sum, stage-is, zero-sum}
+use Rattle.block.specs.StateLaws.{some-sum, zero-sum}
+use Rattle.staged.specs.Laws.{stage-is}
 use Rattle.staged.proofs.last_batch.Statement.{statement}
 use Rattle.staged.proofs.last_batch.Tie as tie
 

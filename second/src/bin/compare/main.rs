@@ -5,6 +5,7 @@
 //!         [--light] [--exact] [--trace]
 //! compare --replay 'CASE'
 //! compare --records N [--seed N]
+//! compare --refused
 //! ```
 //!
 //! - `--seed N`: other random inputs; `--calls N`: so many random calls; `--files N`: so many small
@@ -18,6 +19,8 @@
 //! - `--itself`: the model takes the compiled library's place.
 //! - `--replay 'CASE'`: runs one case, as a difference prints it.
 //! - `--records N`: writes a file of N records, to feed the drive program by hand.
+//! - `--refused`: prints a table of how many sheets at stage 0 are refused for the order of their
+//!   blocks, for tiny settings. No library is asked.
 //!
 //! From the repository's folder, the default run, a longer one, both with the build for this
 //! machine, and one under a tool that watches memory:
@@ -38,7 +41,7 @@
 mod foreign;
 
 use second::compare::{
-    some_file, Case, Comparison, Compiled, Group, Library, Model, Plan, Served, Size,
+    refused, some_file, Case, Comparison, Compiled, Group, Library, Model, Plan, Served, Size,
 };
 use second::random::Random;
 use second::Flaw;
@@ -54,6 +57,7 @@ struct Asked {
     itself: bool,
     replay: Option<String>,
     records: Option<usize>,
+    refused: bool,
 }
 
 /// From so many calls on, the longest runs are made too.
@@ -70,6 +74,7 @@ fn main() -> ExitCode {
     let done = match (&asked.replay, asked.records) {
         (Some(case), _) => replay(&asked, case),
         (_, Some(records)) => write_records(asked.plan.seed, records),
+        _ if asked.refused => write_refused(),
         _ => compare(&asked),
     };
     match done {
@@ -94,6 +99,7 @@ impl Default for Asked {
             itself: false,
             replay: None,
             records: None,
+            refused: false,
         }
     }
 }
@@ -119,6 +125,7 @@ fn asked(mut words: impl Iterator<Item = String>) -> Result<Asked, String> {
             "--exact" => asked.plan.exact = true,
             "--trace" => asked.plan.trace = true,
             "--itself" => asked.itself = true,
+            "--refused" => asked.refused = true,
             _ => return Err(format!("unknown: {word}")),
         }
     }
@@ -231,4 +238,14 @@ fn replay(asked: &Asked, text: &str) -> bool {
 fn write_records(seed: u64, records: usize) -> bool {
     let file = some_file(&mut Random::new(seed), records, 700, 20);
     std::io::stdout().write_all(&file).is_ok()
+}
+
+fn write_refused() -> bool {
+    match refused::table() {
+        Ok(table) => std::io::stdout().write_all(table.as_bytes()).is_ok(),
+        Err(wrong) => {
+            eprintln!("compare: {wrong}");
+            false
+        }
+    }
 }
