@@ -9,12 +9,14 @@
 pub mod compare;
 pub mod drive;
 mod flaw;
+pub mod past;
 pub mod pictures;
 mod plain;
 pub mod random;
 pub mod sheets;
 mod staged;
 pub mod svg;
+mod table;
 
 pub use flaw::Flaw;
 use plain::Whole;

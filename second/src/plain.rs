@@ -9,7 +9,7 @@ pub struct Whole {
 
 /// What a block of k cells is.
 #[derive(Clone, Copy, PartialEq)]
-enum Block {
+pub enum Block {
     /// All 0.
     Empty,
     /// A step of the cycle that starts at cell number `bit`.
@@ -128,7 +128,8 @@ impl Block {
         matches!(self, Block::Active { .. })
     }
 
-    fn decode(top: usize, cells: &[u8]) -> Result<Block, Answer> {
+    /// The block of these cells, if it is empty, full or on a cycle.
+    pub fn decode(top: usize, cells: &[u8]) -> Result<Block, Answer> {
         let weight = sum(cells) as usize;
         if weight == 0 {
             return Ok(Block::Empty);

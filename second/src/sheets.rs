@@ -2,11 +2,13 @@
 //! model's own decoding and encoding: also sheets that no run of changes reaches.
 
 mod damage;
+mod every;
 
 use crate::random::Random;
 use crate::Settings;
 
 pub use damage::Damage;
+pub use every::{every, every_of_sum};
 
 /// Accepted settings of a kind (0 or 1), small ones and those at the limits more often.
 pub fn some_settings(random: &mut Random, kind: usize) -> Settings {

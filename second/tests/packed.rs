@@ -1,10 +1,10 @@
-//! The order of blocks at stage 0: which sheets are refused for it, and that those left have a past.
+//! The order of blocks at stage 0: which sheets are refused for it, and that the staged ones left have
+//! a past.
 
 mod common;
 
-use common::{accept, bits, cells, sum};
+use common::{accept, bits, cells, group_tells, sum};
 use second::compare::refused::{assignments, reached, settings, table, Refused};
-use second::compare::{Model, Plan, Size};
 use second::{change, read, Answer, Flaw, Settings};
 
 /// Counted by readings and by formulas, of every assignment of levels.
@@ -22,11 +22,14 @@ fn the_counts_agree() {
     }
 }
 
-/// A sheet at stage 0 is accepted if and only if some run of changes from the erased sheet ends in
-/// it: each that is reached is accepted, and there are as many.
+/// A staged sheet at stage 0 is accepted if and only if some run of changes from the erased sheet
+/// ends in it: each that is reached is accepted, and there are as many. `past.rs` has the plain ones.
 #[test]
 fn accepted_sheets_are_those_that_changes_reach() {
-    for settings in settings() {
+    let mut staged = settings();
+    staged.retain(|settings| settings.kind == 1);
+    assert_eq!(staged.len(), 1);
+    for settings in staged {
         let reached = reached(&settings);
         for sheet in &reached {
             bits(&settings, sheet);
@@ -109,14 +112,6 @@ fn later_stages_have_no_such_rule() {
 /// Every wrong reading of the two rules is told by the group that is made for them.
 #[test]
 fn the_group_tells_the_flaws() {
-    let plan = Plan {
-        seed: 7,
-        calls: 1,
-        files: 0,
-        size: Size::Light,
-        exact: false,
-        trace: false,
-    };
     for flaw in [
         Flaw::OrderIgnored,
         Flaw::StagedOrderIgnored,
@@ -126,15 +121,7 @@ fn the_group_tells_the_flaws() {
         Flaw::LastByNumber,
         Flaw::FullLastNever,
     ] {
-        let mut groups = 0;
-        plan.library(&Model(flaw), &mut |group| {
-            if group.text.starts_with("packed") {
-                println!("{flaw:?}: {}", group.text);
-                assert!(!group.passed, "{flaw:?}");
-                groups += 1;
-            }
-        });
-        assert_eq!(groups, 1);
+        group_tells("packed", flaw);
     }
 }
 

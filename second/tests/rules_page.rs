@@ -2,10 +2,9 @@
 
 mod common;
 
-use common::{accept, bits, cells, checked_change, sum};
-use second::compare::refused;
+use common::{accept, bits, cells, checked_change, has_a_past, sum};
+use second::compare::{past, refused};
 use second::{read, Answer, Settings};
-use std::collections::HashSet;
 
 const PAGE: &str = concat!(env!("CARGO_MANIFEST_DIR"), "/../docs/RULES.md");
 
@@ -156,24 +155,6 @@ fn an_erase_that_is_cut() {
     }
 }
 
-/// Whether some run of changes from the erased sheet ends in this one. Levels never fall, so only
-/// sheets with no level above it can come before.
-fn has_a_past(settings: &Settings, sheet: &[u8]) -> bool {
-    let below = |before: &[u8]| before.iter().zip(sheet).all(|(old, new)| old <= new);
-    let mut seen = HashSet::from([vec![0; settings.n]]);
-    let mut left: Vec<Vec<u8>> = seen.iter().cloned().collect();
-    while let Some(before) = left.pop() {
-        for bit in 0..settings.k {
-            let mut after = before.clone();
-            let answer = checked_change(settings, &mut after, bit);
-            if answer != Answer::Erase && below(&after) && seen.insert(after.clone()) {
-                left.push(after);
-            }
-        }
-    }
-    seen.contains(sheet)
-}
-
 #[test]
 fn an_accepted_sheet_with_no_past() {
     says("the staged sheet 1000 0100 0010 2222, 01 00 00 00 00 00 of the cut move above is accepted, and no run");
@@ -189,9 +170,17 @@ fn an_accepted_sheet_with_no_past() {
     }
 }
 
+/// The page has this table, as a paragraph of its own.
+fn has_table(table: &str) {
+    says(&format!("\n\n{}\n\n", table.trim()));
+}
+
 #[test]
 fn sheets_refused_for_the_order_of_their_blocks() {
-    let page = std::fs::read_to_string(PAGE).unwrap();
-    let table = refused::table().unwrap();
-    assert!(page.contains(&format!("\n\n{}\n\n", table.trim())));
+    has_table(&refused::table().unwrap());
+}
+
+#[test]
+fn accepted_plain_sheets_have_a_past() {
+    has_table(&past::table().unwrap());
 }

@@ -14,6 +14,7 @@
 //! - `refusals`: every overlap of faults;
 //! - `tiny`: every assignment of levels for the tiniest settings;
 //! - `packed`: a hole and a full block last at every place, and other orders of blocks at stage 0;
+//! - `past`: of the tiniest plain settings, every sheet that a run of changes ends in, by that run;
 //! - `moves`: changes that go on to a later stage, some over a stage with too few live blocks;
 //! - `calls`: random calls on accepted and damaged sheets of every stage;
 //! - `runs`: from erase to Erase, with the counts of demand 3;
@@ -29,6 +30,7 @@ mod library;
 mod moves;
 mod numbers;
 mod packed;
+pub mod past;
 mod plan;
 mod programs;
 mod records;

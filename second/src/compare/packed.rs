@@ -8,7 +8,7 @@
 use super::case::{Call, Case};
 use super::comparison::Comparison;
 use super::plan::Size;
-use crate::sheets::{laid, State};
+use crate::sheets::{every, laid, State};
 use crate::Settings;
 
 /// A shape: the kind, k, L, and how many blocks.
@@ -77,12 +77,11 @@ fn with_blocks([kind, k, top]: [u64; 3], blocks: usize) -> Settings {
 /// number. Each sheet is read and each bit changed.
 fn sequences(comparison: &mut Comparison, settings: &Settings) {
     let Settings { k, top, m, .. } = *settings;
-    let mut numbers = vec![0; m];
-    loop {
-        let state = |(place, &number): (usize, &usize)| match number {
+    for numbers in every(m, k as u8 + 1) {
+        let state = |(place, &number): (usize, &u8)| match number {
             0 => State::Empty,
             1 => State::Full,
-            _ => State::Active(number - 2, 1 + place % (k * top - 1)),
+            _ => State::Active(usize::from(number) - 2, 1 + place % (k * top - 1)),
         };
         let blocks: Vec<State> = numbers.iter().enumerate().map(state).collect();
         let mut case = Case::on(Call::Read, settings, &laid(settings, &blocks));
@@ -92,11 +91,6 @@ fn sequences(comparison: &mut Comparison, settings: &Settings) {
             case.bit = bit;
             comparison.compare(&case);
         }
-        let Some(raised) = numbers.iter().position(|&number| number <= k) else {
-            return;
-        };
-        numbers[raised] += 1;
-        numbers[..raised].fill(0);
     }
 }
 

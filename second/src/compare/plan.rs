@@ -4,7 +4,7 @@ use super::comparison::{Comparison, Difference, Tally};
 use super::impostor::Impostor;
 use super::library::{Library, Model};
 use super::programs::{compare_programs, show, Program};
-use super::{calls, forged, moves, numbers, packed, refusals, runs, settings, tiny};
+use super::{calls, forged, moves, numbers, packed, past, refusals, runs, settings, tiny};
 use crate::Flaw;
 
 /// How much is run.
@@ -48,7 +48,7 @@ pub struct Group {
 /// A group of cases: its name and its work.
 type Cases = (&'static str, fn(&mut Comparison, &Plan));
 
-const GROUPS: [Cases; 9] = [
+const GROUPS: [Cases; 10] = [
     ("numbers", |comparison, _| numbers::numbers(comparison)),
     ("settings", |comparison, plan| {
         settings::settings(comparison, plan.size)
@@ -63,6 +63,7 @@ const GROUPS: [Cases; 9] = [
     ("packed", |comparison, plan| {
         packed::packed(comparison, plan.size)
     }),
+    ("past", |comparison, plan| past::past(comparison, plan.size)),
     ("moves", |comparison, plan| {
         moves::moves(comparison, plan.seed, plan.rounds(1_000, 20_000));
     }),

@@ -5,7 +5,9 @@
 //! every run of changes from the erased sheet. The table is printed only where all of them agree.
 
 use super::tiny::PLAIN;
-use crate::{change, read, Answer, Flaw, Settings};
+use crate::sheets::every;
+use crate::table::row;
+use crate::{past, read, Flaw, Settings};
 use std::collections::HashSet;
 
 /// Settings that are counted beside those of `tiny`: the kind, k, L and n.
@@ -55,17 +57,12 @@ pub fn assignments(settings: &Settings) -> u64 {
 impl Refused {
     /// Reads every assignment of levels, with both rules, with either and with none.
     pub fn by_reading(settings: &Settings) -> Refused {
-        let (mut counts, mut sheet) = (Refused::default(), vec![0; settings.n]);
-        loop {
+        let mut counts = Refused::default();
+        for mut sheet in every(cells(settings), settings.top as u8) {
+            sheet.resize(settings.n, 0);
             counts.count(settings, &sheet);
-            let levels = &mut sheet[..cells(settings)];
-            let below = |&level: &u8| usize::from(level) < settings.top;
-            let Some(raised) = levels.iter().position(below) else {
-                return counts;
-            };
-            levels[raised] += 1;
-            levels[..raised].fill(0);
         }
+        counts
     }
 
     fn count(&mut self, settings: &Settings, sheet: &[u8]) {
@@ -104,6 +101,18 @@ impl Refused {
             accepted: no_hole - full_last,
         }
     }
+
+    fn numbers(&self, settings: &Settings) -> [u64; 7] {
+        [
+            settings.m as u64,
+            assignments(settings),
+            self.any_order,
+            self.hole,
+            self.full_last,
+            self.both,
+            self.accepted,
+        ]
+    }
 }
 
 /// In how many ways so many of the blocks are chosen.
@@ -117,20 +126,9 @@ fn choose(blocks: usize, count: usize) -> u64 {
 
 /// The sheets at stage 0 that runs of changes from the erased sheet end in, the erased one too.
 pub fn reached(settings: &Settings) -> HashSet<Vec<u8>> {
-    let erased = vec![0; settings.n];
-    let mut seen = HashSet::from([erased.clone()]);
-    let mut left = vec![erased];
-    while let Some(sheet) = left.pop() {
-        for bit in 0..settings.k {
-            let mut after = sheet.clone();
-            let done = matches!(change(settings, &mut after, bit), Answer::Done(_));
-            let stage_0 = after[cells(settings)..].iter().all(|&level| level == 0);
-            if done && stage_0 && seen.insert(after.clone()) {
-                left.push(after);
-            }
-        }
-    }
-    seen
+    let blocks = cells(settings);
+    let stage_0 = |sheet: &[u8]| sheet[blocks..].iter().all(|&level| level == 0);
+    past::reached(settings, stage_0)
 }
 
 /// The counts of all settings as a table, or what does not agree.
@@ -145,7 +143,7 @@ pub fn table() -> Result<String, String> {
                 "{settings:?}: {counts:?} by reading, {other:?} by formulas, {reached} reached"
             ));
         }
-        table += &row(&settings, &counts);
+        table += &row(&settings, &counts.numbers(&settings));
     }
     Ok(table)
 }
@@ -154,27 +152,3 @@ const HEAD: &str = "\
 | settings | m | assignments of levels | accepted in any order of blocks | refused: a hole | refused: a full block last | refused: both | accepted |
 | --- | ---: | ---: | ---: | ---: | ---: | ---: | ---: |
 ";
-
-fn row(settings: &Settings, counts: &Refused) -> String {
-    let kind = ["plain", "staged"][settings.kind];
-    let Settings { k, top, n, m, .. } = *settings;
-    let numbers = [
-        m as u64,
-        assignments(settings),
-        counts.any_order,
-        counts.hole,
-        counts.full_last,
-        counts.both,
-        counts.accepted,
-    ];
-    let numbers = numbers.map(grouped).join(" | ");
-    format!("| {kind} k = {k}, L = {top}, n = {n} | {numbers} |\n")
-}
-
-/// A number with a comma before each three digits.
-fn grouped(number: u64) -> String {
-    match number / 1000 {
-        0 => number.to_string(),
-        thousands => format!("{},{:03}", grouped(thousands), number % 1000),
-    }
-}

@@ -9,6 +9,7 @@
 use super::case::{Call, Case};
 use super::comparison::Comparison;
 use super::plan::Size;
+use crate::sheets::every;
 use crate::Settings;
 
 /// Plain settings whose every assignment of levels is run: the kind, k, L and n.
@@ -74,7 +75,8 @@ fn each_level(
 ) {
     let settings = Settings::asked(asked);
     let mut case = Case::on(Call::Read, &settings, sheet);
-    loop {
+    for levels in every(cells.len(), highest) {
+        case.sheet[cells.clone()].copy_from_slice(&levels);
         case.call = Call::Read;
         comparison.compare(&case);
         case.call = Call::Change;
@@ -82,11 +84,5 @@ fn each_level(
             case.bit = bit;
             comparison.compare(&case);
         }
-        let levels = &mut case.sheet[cells.clone()];
-        let Some(raised) = levels.iter().position(|&level| level < highest) else {
-            return;
-        };
-        levels[raised] += 1;
-        levels[..raised].fill(0);
     }
 }

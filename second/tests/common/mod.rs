@@ -1,7 +1,9 @@
 //! What the tests share.
 #![allow(dead_code)]
 
-use second::{change, read, Answer, Settings};
+use second::compare::{Model, Plan, Size};
+use second::past::reached;
+use second::{change, read, Answer, Flaw, Settings};
 
 /// Settings that must be accepted.
 pub fn accept(kind: u64, k: u64, top: u64, n: u64) -> Settings {
@@ -69,4 +71,36 @@ pub fn checked_change(settings: &Settings, sheet: &mut [u8], bit: usize) -> Answ
         other => panic!("{other:?}"),
     }
     answer
+}
+
+/// Whether some run of changes from the erased sheet ends in this one. Levels never fall, so only
+/// sheets with no level above it can come before; each of them must be accepted.
+pub fn has_a_past(settings: &Settings, sheet: &[u8]) -> bool {
+    let below = |before: &[u8]| before.iter().zip(sheet).all(|(old, new)| old <= new);
+    let reached = reached(settings, below);
+    for before in &reached {
+        bits(settings, before);
+    }
+    reached.contains(sheet)
+}
+
+/// The comparison's group of this name tells the flaw, also where little is run.
+pub fn group_tells(name: &str, flaw: Flaw) {
+    let plan = Plan {
+        seed: 7,
+        calls: 1,
+        files: 0,
+        size: Size::Light,
+        exact: false,
+        trace: false,
+    };
+    let mut groups = 0;
+    plan.library(&Model(flaw), &mut |group| {
+        if group.text.starts_with(&format!("{name}:")) {
+            println!("{flaw:?}: {}", group.text);
+            assert!(!group.passed, "{flaw:?}");
+            groups += 1;
+        }
+    });
+    assert_eq!(groups, 1);
 }

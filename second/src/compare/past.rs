@@ -1,0 +1,140 @@
+//! The past of every plain sheet with the tiniest settings: a sheet is accepted exactly if some run
+//! of changes from the erased sheet ends in it.
+//!
+//! The table counts it on the model in three ways: by readings, by a search that makes every run of
+//! changes, and by the run that is told from the sheet. The group holds the library to it.
+
+use super::case::{Call, Case};
+use super::comparison::Comparison;
+use super::library::Reply;
+use super::plan::Size;
+use super::refused::{self, reached};
+use super::tiny::PLAIN;
+use crate::past::{bits, length, replay, run_to, Turns};
+use crate::sheets::every;
+use crate::table::row;
+use crate::{read, sum, Answer, Settings};
+
+/// Every assignment of levels of the tiniest plain settings, in a light run of those with 2 bits:
+/// read, which is Done exactly if the sheet has a run, and that run made from erase on.
+pub(super) fn past(comparison: &mut Comparison, size: Size) {
+    for asked in PLAIN {
+        let settings = Settings::asked(asked);
+        if size == Size::Light && settings.k > 2 {
+            continue;
+        }
+        for sheet in every(settings.n, settings.top as u8) {
+            let case = Case::on(Call::Read, &settings, &sheet);
+            let (reply, run) = (comparison.compare(&case), run_to(&settings, &sheet));
+            let holds = reply.is_none_or(|reply| (reply.answer == 0) == run.is_ok());
+            comparison.require(holds, &case, || match run.is_ok() {
+                true => String::from("a run of changes ends in this sheet"),
+                false => String::from("no run of changes ends in this sheet"),
+            });
+            if let Ok(run) = run {
+                make(comparison, case, &run);
+            }
+        }
+    }
+}
+
+/// Erases the case's sheet and makes the run's changes: each raises one level, and the last leaves
+/// the sheet again.
+fn make(comparison: &mut Comparison, mut case: Case, run: &[Turns]) {
+    let sheet = case.sheet.clone();
+    case.call = Call::Erase;
+    comparison.compare(&case);
+    case.call = Call::Change;
+    for bit in bits(run) {
+        case.sheet.copy_from_slice(comparison.sheet());
+        case.bit = bit;
+        let reply = comparison.compare(&case);
+        let done = Reply::from(Answer::Done(1));
+        comparison.require(reply.is_none_or(|reply| reply == done), &case, || {
+            format!("no step of the run to {sheet:?}")
+        });
+    }
+    let ends = comparison.sheet() == sheet;
+    comparison.require(ends, &case, || format!("the run does not end in {sheet:?}"));
+}
+
+/// How many sheets of one record of plain settings are accepted, are reached and have a run.
+#[derive(Clone, Copy, Debug, Default, PartialEq, Eq)]
+pub struct Counts {
+    /// Assignments of levels.
+    pub assignments: u64,
+    /// Accepted: a reading answers Done.
+    pub accepted: u64,
+    /// Reached by the search that makes every run of changes.
+    pub reached: u64,
+    /// With a run that ends in the sheet when it is made.
+    pub with_run: u64,
+    /// The changes of all these runs.
+    pub changes: u64,
+}
+
+impl Counts {
+    /// Goes through every assignment of levels, or names the first sheet that is neither all three
+    /// nor BadSheet and none of them.
+    pub fn of(settings: &Settings) -> Result<Counts, String> {
+        let reached = reached(settings);
+        let mut counts = Counts::default();
+        for sheet in every(settings.n, settings.top as u8) {
+            let answer = read(settings, &sheet, &mut [0; 64]);
+            let run = run_to(settings, &sheet);
+            let ends = |run: &Vec<Turns>| replay(settings, run).as_ref() == Ok(&sheet);
+            let found = [
+                matches!(answer, Answer::Done(_)),
+                reached.contains(&sheet),
+                run.as_ref().is_ok_and(ends),
+            ];
+            let refused = answer == Answer::BadSheet && run == Err(Answer::BadSheet);
+            let changes = run.as_deref().map_or(0, length);
+            if found != [!refused; 3] || (!refused && changes != sum(&sheet)) {
+                return Err(format!(
+                    "{settings:?}, {sheet:?}: accepted, reached and with a run {found:?}; {run:?}"
+                ));
+            }
+            counts.count(found, changes);
+        }
+        Ok(counts)
+    }
+
+    fn count(&mut self, found: [bool; 3], changes: u64) {
+        let [accepted, reached, with_run] = found.map(u64::from);
+        self.assignments += 1;
+        self.accepted += accepted;
+        self.reached += reached;
+        self.with_run += with_run;
+        self.changes += changes;
+    }
+}
+
+/// The plain settings that are counted.
+pub fn settings() -> Vec<Settings> {
+    let mut settings = refused::settings();
+    settings.retain(|settings| settings.kind == 0);
+    settings
+}
+
+/// The counts of all plain settings as a table, or what does not agree.
+pub fn table() -> Result<String, String> {
+    let mut table = String::from(HEAD);
+    for settings in settings() {
+        let counts = Counts::of(&settings)?;
+        let numbers = [
+            counts.assignments,
+            counts.accepted,
+            counts.reached,
+            counts.with_run,
+            counts.changes,
+        ];
+        table += &row(&settings, &numbers);
+    }
+    Ok(table)
+}
+
+const HEAD: &str = "\
+| settings | assignments of levels | accepted | reached by changes | with a run that ends in it | changes of all these runs |
+| --- | ---: | ---: | ---: | ---: | ---: |
+";

@@ -1,0 +1,263 @@
+//! The past of plain sheets: which of them a run of changes ends in, and that run. The smallest
+//! accepted staged sheet that has none. What the command for support says of it.
+
+mod common;
+
+use common::{accept, bits, cells, group_tells, has_a_past, sum};
+use second::compare::past::{settings, table, Counts};
+use second::compare::refused::{assignments, Refused};
+use second::past::{later, length, replay, run_to, Turns};
+use second::random::Random;
+use second::sheets::{accepted, every, some_settings, Damage};
+use second::{read, Answer, Flaw, Settings};
+use std::process::Command;
+
+/// Readings that get the order of blocks wrong.
+const READINGS: [Flaw; 6] = [
+    Flaw::OrderIgnored,
+    Flaw::HoleAccepted,
+    Flaw::HoleBeforeFull,
+    Flaw::FullLastAccepted,
+    Flaw::LastByNumber,
+    Flaw::FullLastNever,
+];
+
+/// Of every assignment of levels: a reading is Done, changes reach the sheet and its run ends in it,
+/// with as many changes as levels; or it is BadSheet, not reached, and has no run.
+#[test]
+fn every_sheet_of_tiny_settings() {
+    assert_eq!(settings().len(), 11);
+    for settings in settings() {
+        let counts = Counts::of(&settings).unwrap();
+        println!("{settings:?}: {counts:?}");
+        assert_eq!(counts.assignments, assignments(&settings));
+        let accepted = Refused::by_formulas(&settings).accepted;
+        let found = [counts.accepted, counts.reached, counts.with_run];
+        assert_eq!(found, [accepted; 3]);
+    }
+}
+
+/// Whether a reading is Done exactly for the sheets that have a run, where readings have this flaw.
+fn readings_agree(settings: &Settings, flaw: Flaw) -> bool {
+    every(settings.n, settings.top as u8).all(|sheet| {
+        let answer = flaw.during(|| read(settings, &sheet, &mut [0; 64]));
+        matches!(answer, Answer::Done(_)) == run_to(settings, &sheet).is_ok()
+    })
+}
+
+/// Whether all runs end in their sheets, where changes have this flaw.
+fn runs_replay(settings: &Settings, flaw: Flaw) -> bool {
+    every(settings.n, settings.top as u8).all(|sheet| match run_to(settings, &sheet) {
+        Ok(run) => flaw.during(|| replay(settings, &run)) == Ok(sheet),
+        Err(_) => true,
+    })
+}
+
+#[test]
+fn flaws_show() {
+    let settings = accept(0, 2, 1, 8);
+    assert!(readings_agree(&settings, Flaw::None) && runs_replay(&settings, Flaw::None));
+    for flaw in READINGS {
+        assert!(!readings_agree(&settings, flaw), "{flaw:?}");
+    }
+    assert!(!runs_replay(&settings, Flaw::SecondEmpty));
+    for flaw in READINGS.into_iter().chain([Flaw::SecondEmpty]) {
+        let counts = flaw.during(|| Counts::of(&settings));
+        println!("{flaw:?}: {}", counts.unwrap_err());
+        group_tells("past", flaw);
+    }
+}
+
+#[test]
+fn larger_sheets() {
+    let mut random = Random::new(6);
+    for (asked, sheets) in [
+        ([2, 255, 9], 40),
+        ([5, 4, 44], 40),
+        ([8, 3, 100], 40),
+        ([63, 2, 4_000], 4),
+        ([64, 1, 4_160], 20),
+    ] {
+        let [k, top, n] = asked;
+        let settings = accept(0, k, top, n);
+        for _ in 0..sheets {
+            let sheet = accepted(&mut random, &settings, 0);
+            let run = run_to(&settings, &sheet).unwrap();
+            assert_eq!(length(&run), sum(&sheet));
+            assert_eq!(replay(&settings, &run), Ok(sheet), "{asked:?}");
+        }
+    }
+}
+
+/// Of any size, sound or damaged: a run with as many changes as levels where a reading is Done, and
+/// none where it is refused, for the same reason.
+#[test]
+fn a_reading_says_whether_there_is_one() {
+    let (mut random, mut counts) = (Random::new(7), [0; 9]);
+    for _ in 0..1000 {
+        let settings = some_settings(&mut random, 0);
+        let sound = accepted(&mut random, &settings, 0);
+        let damaged = Damage::ALL.map(|damage| damage.apply(&mut random, &settings, &sound));
+        for sheet in damaged.into_iter().flatten().chain([sound]) {
+            let answer = read(&settings, &sheet, &mut [0; 64]);
+            match run_to(&settings, &sheet) {
+                Ok(run) => assert_eq!((length(&run), answer.number()), (sum(&sheet), 0)),
+                Err(refusal) => assert_eq!(refusal, answer),
+            }
+            counts[answer.number() as usize] += 1;
+        }
+    }
+    let seen: Vec<usize> = (0..9).filter(|&number| counts[number] > 500).collect();
+    assert_eq!(seen, [0, 2, 5, 6], "{counts:?}");
+}
+
+/// One stretch for each block in use, and a full one by the lowest bit without an active block.
+#[test]
+fn a_run() {
+    let settings = accept(0, 4, 2, 27);
+    let sheet = cells("2222 0220 2222 2000 2222 0001 000");
+    let run = run_to(&settings, &sheet).unwrap();
+    let expected = [(0, 8), (1, 4), (0, 8), (0, 2), (2, 8), (3, 1)];
+    assert_eq!(run, expected.map(|(bit, times)| Turns { bit, times }));
+    assert_eq!(replay(&settings, &run), Ok(sheet));
+    let once_more = [&run[..], &[Turns { bit: 2, times: 1 }]].concat();
+    assert_eq!(replay(&settings, &once_more), Err(Answer::Erase));
+}
+
+/// No plain sheet has the settings.
+#[test]
+fn settings_of_no_plain_sheet() {
+    let staged = accept(1, 4, 2, 28);
+    assert_eq!(run_to(&staged, &[0; 28]), Err(Answer::BadShape));
+    let zeros = Settings::default();
+    assert_eq!(run_to(&zeros, &[]), Err(Answer::BadShape));
+    assert_eq!(replay(&zeros, &[]), Err(Answer::BadShape));
+}
+
+/// With up to 5 levels raised every accepted sheet of the small staged settings is at stage 0 and
+/// reached, save for k = 4 and L = 1, where some at stage 1 have 5 and none of those is reached.
+#[test]
+fn the_smallest_staged_sheet_without_a_past() {
+    let mut found = Vec::new();
+    for settings in later::searched() {
+        for (levels, layer) in later::layers(&settings).into_iter().enumerate() {
+            println!("{settings:?}, {levels} levels: {layer:?}");
+            assert_eq!(layer.stage_0_reached, layer.stage_0);
+            assert_eq!(layer.later_reached, 0);
+            assert_eq!(layer.later > 0, layer.without_past.is_some());
+            found.extend(layer.without_past.map(|sheet| (settings, levels, sheet)));
+        }
+    }
+    let (settings, sheet) = (
+        accept(1, 4, 1, 34),
+        "1111 0000 0000 0000, 100 000 000 000 000 000",
+    );
+    assert_eq!(found, [(settings, 5, cells(sheet))]);
+    assert_eq!(later::shown(&settings, &cells(sheet)), sheet);
+    assert_eq!(bits(&settings, &cells(sheet)), [0; 4]);
+    assert!(!has_a_past(&settings, &cells(sheet)));
+}
+
+/// The command's exit status, and what it writes on standard output and on standard error.
+fn past(words: &str) -> (i32, String, String) {
+    let command = Command::new(env!("CARGO_BIN_EXE_past"))
+        .args(words.split_whitespace())
+        .output()
+        .unwrap();
+    let [out, err] = [command.stdout, command.stderr].map(|text| String::from_utf8(text).unwrap());
+    (command.status.code().unwrap(), out, err)
+}
+
+/// The levels of these cells as words.
+fn words(levels: &[u8]) -> String {
+    let words: Vec<String> = levels.iter().map(u8::to_string).collect();
+    words.join(" ")
+}
+
+#[test]
+fn the_command_tells_a_run() {
+    for (blocks, told) in [
+        (
+            "2222 0220 0000 0000",
+            "12 changes from an erased sheet end in it:\nbit 0, 8 times\nbit 1, 4 times\n",
+        ),
+        (
+            "0010 0000 0000 0000",
+            "1 change from an erased sheet ends in it:\nbit 2, once\n",
+        ),
+        (
+            "0000 0000 0000 0000 000",
+            "0 changes: it is an erased sheet\n",
+        ),
+    ] {
+        let said = past(&format!("plain 4 2 {}", words(&cells(blocks))));
+        assert_eq!(said, (0, String::from(told), String::new()));
+    }
+}
+
+#[test]
+fn the_command_says_why_there_is_none() {
+    let broken = "none: the cells break the rules (BadSheet), and no run of changes from an erased sheet ends in them\n";
+    for (blocks, told) in [
+        ("0000 2222 0000 0000", broken),
+        ("1000 1000 0000 0000", broken),
+        ("0000 0000 0000 0000 1", broken),
+        ("1000 0100 0010 0001 2222", broken),
+        (
+            "0000 0300 0040 0000",
+            "none: cell 5 is above the top level (BadLevel)\n",
+        ),
+        (
+            "0000 0000 0000 000",
+            "none: no sheet has such settings (BadShape)\n",
+        ),
+    ] {
+        let said = past(&format!("plain 4 2 {}", words(&cells(blocks))));
+        assert_eq!(said, (1, String::from(told), String::new()));
+    }
+}
+
+#[test]
+fn the_command_takes_no_other_words() {
+    let (status, usage, err) = past("--help");
+    assert_eq!((status, &err[..]), (0, ""));
+    assert!(usage.starts_with("usage: past plain BITS TOP LEVEL..: "));
+    for words in [
+        "",
+        "plain",
+        "plain 4",
+        "plain 4 x 0",
+        "plain 4 2 256",
+        "both 4 2 0",
+        "--table 1",
+    ] {
+        assert_eq!(past(words), (2, String::new(), usage.clone()), "{words}");
+    }
+    let (status, out, err) = past("staged 4 2 0 0 0");
+    assert_eq!((status, &out[..]), (2, ""));
+    assert!(err.starts_with("of staged sheets nothing is claimed: "));
+}
+
+/// As many cells and levels as there can be.
+#[test]
+fn the_command_takes_the_widest_sheets() {
+    for (asked, line) in [
+        ("64 255", "bit 0, 16320 times\n"),
+        ("2 255", "bit 0, 510 times\n"),
+    ] {
+        let (status, out, _) = past(&format!("plain {asked} {}", words(&[255; 16_384])));
+        let head = "4177920 changes from an erased sheet end in it:\n";
+        let lines = (out.len() - head.len()) / line.len();
+        assert_eq!((status, out), (0, head.to_string() + &line.repeat(lines)));
+    }
+}
+
+#[test]
+fn the_command_prints_what_is_searched() {
+    let (table, no_past) = (table().unwrap(), later::table());
+    assert_eq!(table.lines().count(), 2 + settings().len());
+    let last = "no run ends in 1111 0000 0000 0000, 100 000 000 000 000 000, with 5 levels raised";
+    assert_eq!(no_past.lines().last(), Some(last));
+    assert_eq!(past("--table"), (0, table, String::new()));
+    assert_eq!(past("--no-past"), (0, no_past, String::new()));
+}
