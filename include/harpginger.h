@@ -99,7 +99,8 @@ enum harpginger_place {
    empty, full nor on a bit's cycle; if two active blocks have one bit; if an empty block stands
    before one that isn't empty; if all k bits have active blocks and the last block that isn't empty
    is full; or if a spare cell isn't 0. docs/RULES.md has the rules of later stages. Calls that ran
-   to their end never make such a sheet. */
+   to their end never make such a sheet, and every plain sheet that is accepted is one that changes
+   make from an erased sheet. */
 enum harpginger_answer {
     HARPGINGER_DONE = 0,         /* accepted */
     HARPGINGER_BAD_SHAPE = 1,    /* a setting outside the limits, or a record that is not genuine */

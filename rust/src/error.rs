@@ -33,7 +33,8 @@ pub enum Error {
     /// The sheet breaks the rules of its kind. At stage 0, plain or staged: a block is neither
     /// empty, full nor on a bit's cycle; two active blocks have one bit; an empty block stands
     /// before one that isn't empty; all bits have active blocks and the last block that isn't empty
-    /// is full; or a spare cell isn't 0. Calls that ran to their end never make such a sheet.
+    /// is full; or a spare cell isn't 0. Calls that ran to their end never make such a sheet, and
+    /// every plain sheet that is accepted is one that changes make from an erased sheet.
     BadSheet,
     /// Change: there is no place for this bit before the sheet is erased.
     Erase,

@@ -10,7 +10,7 @@ use native.Mathlib.Omega.{arith}
 use lib.ListN.{length, getD, take, drop, drop-of-length-le, length-append, length-drop, take-append-drop}
 use lib.Seq.{drop-at, drop-cons, length-take-le, take-at}
 use Rattle.laws.specs.Block.{length-ramp, ramp-zero, state-one}
-use Rattle.laws.specs.Lists.{sum-append}
+use Rattle.laws.specs.Lists.{sum-append, sum-zero}
 use Rattle.laws.specs.Rise.{cellBefore, no-other-rises, start-rises}
 use Rattle.rules.specs.Block.{active, broken, cycle, ramp, stateOf}
 use Rattle.rules.specs.Cells.{Low, sum}
@@ -18,7 +18,7 @@ use Rattle.rules.specs.Search.{pick}
 use Rattle.rules.specs.SearchLaws.{pick-elim, pick-no, pick-yes}
 use Rattle.block.specs.Meaning.{Falls, OneRise, lastOf, lastRise, middles, rises, shapeOf}
 use Rattle.block.specs.declared.Shape.{Shape}
-use Rattle.block.specs.StateLaws.{off-all, sum-zero, under}
+use Rattle.block.specs.StateLaws.{off-all, under}
 
 -- ---- what a loop adds: one more cell
 

@@ -7,7 +7,7 @@ use Prim.Native.Nat.{ℕ, _*_, _≤_, _<_}
 use native.Mathlib.Omega.{arith}
 use lib.ListN.{length, replicate}
 use Rattle.laws.specs.Block.{state-one}
-use Rattle.laws.specs.Lists.{sum-low, sum-replicate}
+use Rattle.laws.specs.Lists.{sum-low, sum-replicate, sum-zero}
 use Rattle.rules.specs.Block.{empty, full, broken, cycle, stateOf}
 use Rattle.rules.specs.Cells.{Low, same?, sum}
 use Rattle.rules.specs.Search.{pick}
@@ -25,11 +25,6 @@ test-false (yes a) p e h = let z : _≡_ {A = ℕ} 0 1 = cc in omega arith
 test-false (no h) p e x = h x
 
 -- ---- the weights of an empty and of a full block
-
--- cells of sum 0 are all 0
-pub sum-zero : (b : List ℕ) → sum b ≡ 0 → b ≡ replicate (length b) 0
-sum-zero [] e = refl
-sum-zero (x ∷ b) e = ap₂ (λ (y : ℕ) (r : List ℕ). y ∷ r) (omega arith) (sum-zero b (omega arith))
 
 -- what a look for a cell above 0 tells of the sum: there is none
 pub zero-sum : (b : List ℕ) → pick (same? b (replicate (length b) 0)) true false ≡ true → sum b ≡ 0

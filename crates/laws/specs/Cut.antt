@@ -2,10 +2,10 @@
 -- Serves the blocks of k cells, the parity blocks of a stage and the index blocks alike. Assumes nothing.
 use mathlib.Core.List.{List, _++_, append-assoc}
 use mathlib.Core.Logic.{_≢_}
-use mathlib.Core.Path.{_∙_, _≡_, ap, refl, subst, sym}
+use mathlib.Core.Path.{_∙_, _≡_, ap, ap₂, refl, subst, sym}
 use Prim.Native.Nat.{_*_, _+_, _-_, _<_, _≤_, suc, zero, ℕ}
 use native.Mathlib.Decide.{decLt}
-use native.Mathlib.Nat.{add-sub-of-le, mul-le-mul, mul-le-mul-right, suc-mul, zero-mul}
+use native.Mathlib.Nat.{add-sub-of-le, le-refl, mul-le-mul, mul-le-mul-right, suc-mul, zero-mul}
 use native.Mathlib.Omega.{arith}
 use lib.ListN.{drop, length, length-append, length-drop, take, take-append-drop}
 use lib.Seq.{drop-append-add, drop-append-le, drop-at, drop-drop, length-take-le, take-add, take-append-le, take-at}
@@ -79,6 +79,11 @@ module _ (w : ℕ) (xs : List ℕ) (j : ℕ) (fits : j * w + w ≤ length xs) wh
         ∙ past n (take (j * w) xs ++ b) (drop (j * w + w) xs) (omega arith)
         ∙ drop-drop (n - length (take (j * w) xs ++ b)) (j * w + w) xs
         ∙ ap (λ (x : ℕ). drop x xs) c
+
+    -- what is stored last stays
+    pub store-twice : (c : List ℕ) → store w (store w xs j b) j c ≡ store w xs j c
+    unfolding store
+    store-twice c = ap₂ (λ (p q : List ℕ). p ++ (c ++ q)) (take-at (take (j * w) xs) (b ++ drop (j * w + w) xs) (j * w) at-front) (store-past (j * w + w) (le-refl (j * w + w)))
 
     -- there are as many cells as before
     pub length-store : length (store w xs j b) ≡ length xs

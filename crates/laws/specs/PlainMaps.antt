@@ -248,19 +248,24 @@ module _ (f : State → ℕ) {m j : ℕ} {s : State} {st st′ : ℕ → State} 
   pub tally-upd : tally f st′ m + f (st j) ≡ tally f st m + f s
   tally-upd = high m (u .place) (le-refl m)
 
+-- states stay lawful where the one that is put is proper, and active for no bit but i, which no other block has
+pub put-lawful : (k F m i j : ℕ) (s : State) (st st′ : ℕ → State) → Lawful k F m st → Update m st st′ j s → Proper k F s → ((x : ℕ) → HasBit x s → x ≡ i)
+    → ((x : ℕ) → x < m → x ≢ j → ¬ (HasBit i (st x))) → Lawful k F m st′
+put-lawful k F m i j s st st′ g u o is alone = record {
+  proper = upd-all u (λ x t. Proper k F t) o (λ x l d. g .proper x l);
+  apart = λ b x x′ lx lx′. upd-all u (λ x t. HasBit b t → HasBit b (st′ x′) → x ≡ x′)
+      (λ h. upd-all u (λ x t. HasBit b t → j ≡ x) (λ q. refl)
+      (λ z l d q. absurd (alone z l d (subst (λ (c : ℕ). HasBit c (st z)) (is b h) q))) x′ lx′)
+      (λ z l d h. upd-all u (λ x t. HasBit b t → z ≡ x)
+      (λ q. absurd (alone z l d (subst (λ (c : ℕ). HasBit c (st z)) (is b q) h)))
+      (λ w lw e q. g .apart b z w l lw h q) x′ lx′)
+      x lx;
+}
+
 module _ (k F m i j : ℕ) (s : State) (st st′ : ℕ → State) (g : Lawful k F m st) (y : Legal k F m i st j s) (u : Update m st st′ j s) where
   -- the sheet stays accepted
   pub stays : Lawful k F m st′
-  stays = record {
-    proper = upd-all u (λ x t. Proper k F t) (y .fits) (λ x l d. g .proper x l);
-    apart = λ b x x′ lx lx′. upd-all u (λ x t. HasBit b t → HasBit b (st′ x′) → x ≡ x′)
-        (λ h. upd-all u (λ x t. HasBit b t → j ≡ x) (λ q. refl)
-        (λ z l d q. absurd (y .alone z l d (subst (λ (c : ℕ). HasBit c (st z)) (y .is b h) q))) x′ lx′)
-        (λ z l d h. upd-all u (λ x t. HasBit b t → z ≡ x)
-        (λ q. absurd (y .alone z l d (subst (λ (c : ℕ). HasBit c (st z)) (y .is b q) h)))
-        (λ w lw e q. g .apart b z w l lw h q) x′ lx′)
-        x lx;
-  }
+  stays = put-lawful k F m i j s st st′ g u (y .fits) (y .is) (y .alone)
 
   -- the new reading differs in bit i
   pub flips : bitOf F st′ m i ≡ 1 - bitOf F st m i

@@ -8,8 +8,8 @@ use native.Mathlib.Nat.{le-refl, mul-le-mul-right}
 use native.Mathlib.Omega.{arith}
 use lib.ListN.{drop, length, length-replicate, replicate, take}
 use Rattle.laws.specs.Block.{Means, cycle-full, cycle-low, cycle-rises, cycle-zero, length-cycle, state-means, state-one, sum-cycle}
-use Rattle.laws.specs.Cut.{blockSum, length-store, store-other, store-past, store-rises, store-same, store-sum, sum-blocks, sum-split}
-use Rattle.laws.specs.Lists.{drop-replicate, low-append, low-drop, low-replicate, low-take, sum-replicate, take-replicate}
+use Rattle.laws.specs.Cut.{blockSum, length-store, low-store, store-other, store-past, store-rises, store-same, store-sum, sum-blocks, sum-split}
+use Rattle.laws.specs.Lists.{drop-replicate, low-replicate, sum-replicate, take-replicate}
 use Rattle.laws.specs.PlainMaps.{Lawful, Legal, Planned, Proper, Update, bit-two, erase-late, flips, keeps, lawful-from, legal, new, no-repeat, own, plan-is, stays, total}
 use Rattle.laws.specs.Packed.{packed-blank, packed-put}
 use Rattle.rules.specs.Block.{State, active, broken, cellsOf, cycle, empty, full, grown, next, stateOf}
@@ -87,25 +87,29 @@ module _ (k L m n : ℕ) (two : 1 < k) (g : 0 < L) (even : k * L % 2 ≡ 0) (roo
   shape-cells broken b o h = absurd o
   shape-cells (active i v) b o h = h .3
 
-  low-cells : (s : State) → Low L (cellsOf k L s)
+  -- no level of a state's cells is above L
+  pub low-cells : (s : State) → Low L (cellsOf k L s)
   low-cells empty = low-replicate L k 0 zero-le
   low-cells full = low-replicate L k L (le-refl L)
   low-cells broken = tt
   low-cells (active i v) = cycle-low k L i v
 
-  length-cells : (s : State) → Proper k (k * L) s → length (cellsOf k L s) ≡ k
+  -- a good state has k cells
+  pub length-cells : (s : State) → Proper k (k * L) s → length (cellsOf k L s) ≡ k
   length-cells empty o = length-replicate k 0
   length-cells full o = length-replicate k L
   length-cells broken o = absurd o
   length-cells (active i v) o = length-cycle k L i (omega arith) v
 
-  sum-cells : (s : State) → Proper k (k * L) s → sum (cellsOf k L s) ≡ weight (k * L) s
+  -- the levels of a good state's cells sum to its weight
+  pub sum-cells : (s : State) → Proper k (k * L) s → sum (cellsOf k L s) ≡ weight (k * L) s
   sum-cells empty o = sum-replicate k 0 ∙ omega arith
   sum-cells full o = sum-replicate k L
   sum-cells broken o = absurd o
   sum-cells (active i v) o = sum-cycle k L i (omega arith) v (omega arith)
 
-  fits : (j : ℕ) (xs : List ℕ) → length xs ≡ n → j < m → j * k + k ≤ length xs
+  -- block j stands in the sheet
+  pub fits : (j : ℕ) (xs : List ℕ) → length xs ≡ n → j < m → j * k + k ≤ length xs
   fits j xs e l = omega (arith, mul-le-mul-right {m = suc j} {n = m} k l)
 
   module _ (i : ℕ) (here : i < k) (xs : List ℕ) (a : Accepted k L m n xs) where
@@ -114,7 +118,8 @@ module _ (k L m n : ℕ) (two : 1 < k) (g : 0 < L) (even : k * L % 2 ≡ 0) (roo
     unfolding states
     block-cells j l = shape-cells (stateOf k L (block k xs j)) (block k xs j) (a .lawful .proper j l) (state-means k L (omega arith) g (block k xs j))
 
-    upd : (j : ℕ) (s : State) → j < m → Proper k (k * L) s → Update m (states k L xs) (states k L (store k xs j (cellsOf k L s))) j s
+    -- a state's cells stored in block j put that state there
+    pub upd : (j : ℕ) (s : State) → j < m → Proper k (k * L) s → Update m (states k L xs) (states k L (store k xs j (cellsOf k L s))) j s
     unfolding states
     upd j s l o =
         let f : j * k + k ≤ length xs = fits j xs (a .long) l in
@@ -138,7 +143,7 @@ module _ (k L m n : ℕ) (two : 1 < k) (g : 0 < L) (even : k * L % 2 ≡ 0) (roo
         (subst (λ (r : List ℕ). Rises r (cycle k L i 1)) (cycle-zero k L i (omega arith)) (cycle-rises k L i (omega arith) 0 1 (omega arith)))
 
     put-law : (j : ℕ) (s : State) → Planned (k * L) m i (states k L xs) (put j s) → Changed k L m n i xs (store k xs j (cellsOf k L s))
-    unfolding read store
+    unfolding read
     put-law j s p =
         let st : ℕ → State = states k L xs in
         let y : Legal k (k * L) m i st j s = legal k (k * L) m i even big here st (a .lawful) p in
@@ -149,7 +154,7 @@ module _ (k L m n : ℕ) (two : 1 < k) (g : 0 < L) (even : k * L % 2 ≡ 0) (roo
         record {
           stays = record {
             long = length-store k xs j f (cellsOf k L s) e ∙ a .long;
-            low = low-append L (take (j * k) xs) _ (low-take L (j * k) xs (a .low)) (low-append L (cellsOf k L s) _ (low-cells s) (low-drop L (j * k + k) xs (a .low)));
+            low = low-store L k xs j (cellsOf k L s) (a .low) (low-cells s);
             lawful = stays k (k * L) m i j s st (states k L (store k xs j (cellsOf k L s))) (a .lawful) y u;
             packed = packed-put k (k * L) m i st (states k L (store k xs j (cellsOf k L s))) here (a .lawful) (a .packed) p u;
             spare = store-past k xs j f (cellsOf k L s) e (m * k) (omega (arith, mul-le-mul-right {m = suc j} {n = m} k (y .place))) ∙ a .spare;

@@ -5,7 +5,8 @@ use mathlib.Core.List.{List}
 use Prim.Native.Nat.{ℕ, _+_, _*_, _^_, _≤_, _<_, zero-le}
 use native.Mathlib.Omega.{arith}
 use lib.ListN.{length, take, drop, replicate}
-use Rattle.rules.specs.Search.{not?, all?, some?, Result, done, noPlace}
+use Rattle.rules.specs.Search.{not?, all?, Result, done, noPlace}
+use Rattle.rules.specs.SearchLaws.{some-not}
 use Rattle.rules.specs.Cells.{sum, Low, block}
 use Rattle.rules.specs.Block.{State, stateOf}
 use Rattle.rules.specs.Plain.{IsEmpty, IsFull, OnCycle, onCycle?, SameBit, sameBit?, Hole, hole?, states}
@@ -45,11 +46,7 @@ pub data BlockCause (k m : ℕ) (st : ℕ → State) : Type 0 where
 abbrev pub HasHole : ℕ → (ℕ → State) → Type 0
 HasHole m st = (x : ℕ) × (j : ℕ) × (x < j) × (j < m) × IsEmpty (st x) × ¬ (IsEmpty (st j))
 
--- not every place below m, so some place does not
-some-not : {P : ℕ → Type 0} → ((j : ℕ) → Dec (P j)) → (m : ℕ) → ¬ ((j : ℕ) → j < m → P j) → (j : ℕ) × (j < m) × ¬ (P j)
-some-not p m n = Dec·not-not (some? (λ j. not? (p j)) m) .0 (λ h. n (λ j l. Dec·not-not (p j) .0 (λ q. h (j, l, q))))
-
--- the same of two places, one before the other
+-- it does not fail for every two places, one before the other, so for some two it holds
 some-pair : {Q : ℕ → ℕ → Type 0} → ((x j : ℕ) → Dec (Q x j)) → (m : ℕ) → ¬ ((j : ℕ) → j < m → (x : ℕ) → x < j → ¬ (Q x j))
     → (x : ℕ) × (j : ℕ) × (x < j) × (j < m) × Q x j
 some-pair {Q} q m n =
@@ -209,18 +206,18 @@ pub record PastLevels (r : Settings) (xs : List ℕ) : Type 0 where
 
 module _ (r : Settings) (xs : List ℕ) (a : PastLevels r xs) where
   -- it is accepted if it keeps the sheet rules
-  whole : Sound r xs → Accepted r xs
+  pub whole : Sound r xs → Accepted r xs
   whole s = record { genuine = a .genuine; long = a .long; low = a .low; sound = s }
 
   -- a reading of it answers BadSheet exactly if it breaks the sheet rules
-  read-breaks : (out : List ℕ) → r .k ≤ length out → (readCall r xs out .answer ≡ BadSheet) ↔ ¬ (Sound r xs)
+  pub read-breaks : (out : List ℕ) → r .k ≤ length out → (readCall r xs out .answer ≡ BadSheet) ↔ ¬ (Sound r xs)
   read-breaks out l = (
     λ e s. omega (arith, ap numberOf (sym e ∙ ap (λ (o : Reading). o .answer) (read-gives r xs out (whole s) l))),
     λ n. read-answers r xs out BadSheet .0 (read-sheet (a .genuine) (a .long) l (a .low) n),
   )
 
   -- and so does a change of a bit below k
-  change-breaks : (i : ℕ) → i < r .k → (changeCall r xs i .answer ≡ BadSheet) ↔ ¬ (Sound r xs)
+  pub change-breaks : (i : ℕ) → i < r .k → (changeCall r xs i .answer ≡ BadSheet) ↔ ¬ (Sound r xs)
   unfolding changeCall
   change-breaks i l = (
     λ e s. made (changeSheet r xs i) (sym (ap (λ (c : Check). changing r xs i c .answer) (change-passes r xs i (whole s) l)) ∙ e),

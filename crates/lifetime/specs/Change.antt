@@ -37,7 +37,8 @@ pub record Changed (r : Settings) (i : ℕ) (xs ys : List ℕ) : Type 0 where
 -- ---- kind 0
 
 module _ (r : Settings) (p : PlainFacts r) where
-  plain-is : (xs : List ℕ) → Accepted r xs → P.Accepted (r .k) (r .top) (r .m) (r .n) xs
+  -- an accepted sheet, as the laws of plain sheets have it
+  pub plain-is : (xs : List ℕ) → Accepted r xs → P.Accepted (r .k) (r .top) (r .m) (r .n) xs
   plain-is xs a =
       let q : R.Sound (r .k) (r .top) (r .m) (r .n) xs = plain-sound r p xs (a .sound) in
       record { long = a .long; low = a .low; lawful = P.blocks-lawful (r .k) (r .top) (r .m) xs (omega (arith, p .bits-least)) (p .top-least) (q .0); packed = q .0 .2; spare = q .1 }

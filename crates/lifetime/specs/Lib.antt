@@ -1,5 +1,6 @@
 -- Demands 1, 2 and 3, one outcome for each call, and the impostors.
 pub mod Tight
+pub mod Before
 pub mod Up
 pub mod Within
 pub mod Move
@@ -16,6 +17,8 @@ pub mod Programs
 pub mod Refusals
 pub mod Causes
 pub mod Readings
+pub mod Past
 pub mod Impostors
 pub mod Pretending
+pub mod NoPast
 pub mod Onward

@@ -88,7 +88,7 @@ module _ (r : Settings) (p : PlainFacts r) where
       omega (arith, guarantee-plain r p, p .bits-least)
 
   -- a run of the maps is a run of calls
-  maps-run : Genuine r → {c : ℕ} {xs : List ℕ} → Maps c xs → Run r c xs
+  pub maps-run : Genuine r → {c : ℕ} {xs : List ℕ} → Maps c xs → Run r c xs
   maps-run g P.begin = blank-run r g
   maps-run g (P.more c i xs ys q l e) =
       let a : Accepted r xs = is-plain r p xs g (P.run-law (r .k) (r .top) (r .m) (r .n) (p .bits-least) (p .top-least) (p .even) (p .inside) q .0) in
@@ -113,7 +113,7 @@ module _ (r : Settings) (p : StagedFacts r) where
   abbrev StagedMaps : ℕ → List ℕ → Type 0
   StagedMaps = T.Run (r .s) (r .m) (r .top) (means r p) (back r p) (r .n)
 
-  staged-runs : {c : ℕ} {xs : List ℕ} → Run r c xs → StagedMaps c xs
+  pub staged-runs : {c : ℕ} {xs : List ℕ} → Run r c xs → StagedMaps c xs
   staged-runs = runs r StagedMaps (λ g. T.begin) (λ c i xs ys q a l e. T.more c i xs ys q (below r p l) (sym (staged-change r p xs i) ∙ e))
 
   staged-late : (c i : ℕ) (xs : List ℕ) → Run r c xs → changeCall r xs i .answer ≡ Erase → guarantee r ≤ c

@@ -19,11 +19,10 @@ use Rattle.rules.specs.declared.Settings.{Settings}
 use Rattle.laws.specs.Parity.{half-live}
 use Rattle.laws.specs.Calls.{sheet-maps}
 use Rattle.laws.specs.Kinds.{staged-change}
-use Rattle.laws.specs.Lists.{low-take}
+use Rattle.laws.specs.Lists.{low-take, sum-zero}
 use Rattle.laws.specs.Live.{live}
 use Rattle.laws.specs.Splice.{part}
 use Rattle.rules.specs.declared.Answer.the-variants.{Done, Erase}
-use Rattle.block.specs.StateLaws.{sum-zero}
 use Rattle.moving.specs.Meaning.{Roomy}
 use Rattle.moving.specs.RulesLaws.{live-is, move-is}
 use Rattle.moving.specs.Meaning as M
