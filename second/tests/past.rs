@@ -255,7 +255,7 @@ fn the_command_takes_the_widest_sheets() {
 #[test]
 fn the_command_prints_what_is_searched() {
     let (table, no_past) = (table().unwrap(), later::table());
-    assert_eq!(table.lines().count(), 2 + settings().len());
+    assert_eq!(table.lines().count(), 3 + settings().len());
     let last = "no run ends in 1111 0000 0000 0000, 100 000 000 000 000 000, with 5 levels raised";
     assert_eq!(no_past.lines().last(), Some(last));
     assert_eq!(past("--table"), (0, table, String::new()));

@@ -4,6 +4,7 @@ mod common;
 
 use common::{accept, bits, cells, checked_change, has_a_past, sum};
 use second::compare::{past, refused};
+use second::past::command::said;
 use second::{read, Answer, Settings};
 
 const PAGE: &str = concat!(env!("CARGO_MANIFEST_DIR"), "/../docs/RULES.md");
@@ -157,7 +158,7 @@ fn an_erase_that_is_cut() {
 
 #[test]
 fn an_accepted_sheet_with_no_past() {
-    says("the staged sheet 1000 0100 0010 2222, 01 00 00 00 00 00 of the cut move above is accepted, and no run");
+    says("the staged sheet 1000 0100 0010 2222, 01 00 00 00 00 00 of the cut move above is accepted, and no run ends in it");
     let settings = accept(1, 4, 2, 28);
     let sheet = cells("1000 0100 0010 2222, 01 00 00 00 00 00");
     assert_eq!(bits(&settings, &sheet), [1, 0, 0, 0]);
@@ -173,6 +174,21 @@ fn an_accepted_sheet_with_no_past() {
 /// The page has this table, as a paragraph of its own.
 fn has_table(table: &str) {
     says(&format!("\n\n{}\n\n", table.trim()));
+}
+
+/// What the command says where the page calls it, up to an empty line or the block's end.
+#[test]
+fn the_past_of_a_plain_sheet() {
+    let page = std::fs::read_to_string(PAGE).unwrap();
+    let calls: Vec<&str> = page.split("\npast ").skip(1).collect();
+    assert_eq!(calls.len(), 2);
+    for call in calls {
+        let mut lines = call.lines();
+        let words = lines.next().unwrap().split_whitespace();
+        let words: Vec<String> = words.map(String::from).collect();
+        let told = lines.take_while(|line| !line.is_empty() && !line.starts_with("```"));
+        assert!(said(&words).text.lines().eq(told), "{words:?}");
+    }
 }
 
 #[test]

@@ -12,7 +12,7 @@ use super::refused::{self, reached};
 use super::tiny::PLAIN;
 use crate::past::{bits, length, replay, run_to, Turns};
 use crate::sheets::every;
-use crate::table::row;
+use crate::table::{row, sums};
 use crate::{read, sum, Answer, Settings};
 
 /// Every assignment of levels of the tiniest plain settings, in a light run of those with 2 bits:
@@ -108,6 +108,16 @@ impl Counts {
         self.with_run += with_run;
         self.changes += changes;
     }
+
+    fn numbers(&self) -> [u64; 5] {
+        [
+            self.assignments,
+            self.accepted,
+            self.reached,
+            self.with_run,
+            self.changes,
+        ]
+    }
 }
 
 /// The plain settings that are counted.
@@ -117,21 +127,15 @@ pub fn settings() -> Vec<Settings> {
     settings
 }
 
-/// The counts of all plain settings as a table, or what does not agree.
+/// The counts of all plain settings as a table with their sums, or what does not agree.
 pub fn table() -> Result<String, String> {
-    let mut table = String::from(HEAD);
+    let (mut table, mut rows) = (String::from(HEAD), Vec::new());
     for settings in settings() {
-        let counts = Counts::of(&settings)?;
-        let numbers = [
-            counts.assignments,
-            counts.accepted,
-            counts.reached,
-            counts.with_run,
-            counts.changes,
-        ];
+        let numbers = Counts::of(&settings)?.numbers();
         table += &row(&settings, &numbers);
+        rows.push(numbers);
     }
-    Ok(table)
+    Ok(table + &sums(&rows))
 }
 
 const HEAD: &str = "\

@@ -6,7 +6,7 @@
 
 use super::reached;
 use crate::sheets::every_of_sum;
-use crate::table::row;
+use crate::table::{grouped, row};
 use crate::{read, sum, Answer, Settings};
 use std::collections::HashSet;
 
@@ -84,20 +84,21 @@ impl Layer {
     }
 }
 
-/// What is found for all settings as a table, and the first sheet with no past for each that has
-/// one.
+/// What is found for all settings as a table, how many sheets were gone through, and the first one
+/// with no past for each settings that have one.
 pub fn table() -> String {
-    let (mut table, mut found) = (String::from(HEAD), String::from("\n"));
+    let (mut table, mut found, mut sheets) = (String::from(HEAD), String::new(), 0);
     for settings in searched() {
         for (levels, layer) in layers(&settings).iter().enumerate() {
             table += &row(&settings, &layer.numbers(levels));
+            sheets += layer.sheets;
             if let Some(sheet) = &layer.without_past {
                 let shown = shown(&settings, sheet);
                 found += &format!("no run ends in {shown}, with {levels} levels raised\n");
             }
         }
     }
-    table + &found
+    format!("{table}\n{} sheets in all\n{found}", grouped(sheets))
 }
 
 const HEAD: &str = "\
