@@ -80,7 +80,7 @@ module _ (w : ℕ) (xs : List ℕ) (j : ℕ) (fits : j * w + w ≤ length xs) wh
         ∙ drop-drop (n - length (take (j * w) xs ++ b)) (j * w + w) xs
         ∙ ap (λ (x : ℕ). drop x xs) c
 
-    -- what is stored last stays
+    -- a block stored twice holds what was stored last
     pub store-twice : (c : List ℕ) → store w (store w xs j b) j c ≡ store w xs j c
     unfolding store
     store-twice c = ap₂ (λ (p q : List ℕ). p ++ (c ++ q)) (take-at (take (j * w) xs) (b ++ drop (j * w + w) xs) (j * w) at-front) (store-past (j * w + w) (le-refl (j * w + w)))

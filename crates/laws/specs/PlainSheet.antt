@@ -94,15 +94,14 @@ module _ (k L m n : ℕ) (two : 1 < k) (g : 0 < L) (even : k * L % 2 ≡ 0) (roo
   low-cells broken = tt
   low-cells (active i v) = cycle-low k L i v
 
-  -- a good state has k cells
+  -- a proper state has k cells
   pub length-cells : (s : State) → Proper k (k * L) s → length (cellsOf k L s) ≡ k
   length-cells empty o = length-replicate k 0
   length-cells full o = length-replicate k L
   length-cells broken o = absurd o
   length-cells (active i v) o = length-cycle k L i (omega arith) v
 
-  -- the levels of a good state's cells sum to its weight
-  pub sum-cells : (s : State) → Proper k (k * L) s → sum (cellsOf k L s) ≡ weight (k * L) s
+  sum-cells : (s : State) → Proper k (k * L) s → sum (cellsOf k L s) ≡ weight (k * L) s
   sum-cells empty o = sum-replicate k 0 ∙ omega arith
   sum-cells full o = sum-replicate k L
   sum-cells broken o = absurd o

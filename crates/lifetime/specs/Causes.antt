@@ -46,7 +46,7 @@ pub data BlockCause (k m : ℕ) (st : ℕ → State) : Type 0 where
 abbrev pub HasHole : ℕ → (ℕ → State) → Type 0
 HasHole m st = (x : ℕ) × (j : ℕ) × (x < j) × (j < m) × IsEmpty (st x) × ¬ (IsEmpty (st j))
 
--- it does not fail for every two places, one before the other, so for some two it holds
+-- what does not fail for every two places, one before the other, holds for some two
 some-pair : {Q : ℕ → ℕ → Type 0} → ((x j : ℕ) → Dec (Q x j)) → (m : ℕ) → ¬ ((j : ℕ) → j < m → (x : ℕ) → x < j → ¬ (Q x j))
     → (x : ℕ) × (j : ℕ) × (x < j) × (j < m) × Q x j
 some-pair {Q} q m n =
@@ -199,12 +199,12 @@ new-causes r xs g z h =
 -- ---- the calls
 
 -- a sheet that passes checks 1, 2 and 5
-pub record PastLevels (r : Settings) (xs : List ℕ) : Type 0 where
+pub record LevelsPass (r : Settings) (xs : List ℕ) : Type 0 where
   pub genuine : Genuine r
   pub long : length xs ≡ r .n
   pub low : Low (r .top) xs
 
-module _ (r : Settings) (xs : List ℕ) (a : PastLevels r xs) where
+module _ (r : Settings) (xs : List ℕ) (a : LevelsPass r xs) where
   -- it is accepted if it keeps the sheet rules
   pub whole : Sound r xs → Accepted r xs
   whole s = record { genuine = a .genuine; long = a .long; low = a .low; sound = s }
@@ -229,19 +229,19 @@ module _ (r : Settings) (xs : List ℕ) (a : PastLevels r xs) where
       made noPlace e = omega (arith, ap numberOf e)
 
 -- a reading at stage 0 answers BadSheet exactly if there is a cause
-pub read-bad-sheet : (r : Settings) (xs out : List ℕ) → PastLevels r xs → StageZero r xs → r .k ≤ length out → (readCall r xs out .answer ≡ BadSheet) ↔ Cause r xs
+pub read-bad-sheet : (r : Settings) (xs out : List ℕ) → LevelsPass r xs → StageZero r xs → r .k ≤ length out → (readCall r xs out .answer ≡ BadSheet) ↔ Cause r xs
 read-bad-sheet r xs out a z l = Iff·trans (read-breaks r xs a out l) (sheet-cause r xs (a .genuine) z)
 
 -- a change at stage 0 answers BadSheet exactly if there is a cause
-pub change-bad-sheet : (r : Settings) (xs : List ℕ) (i : ℕ) → PastLevels r xs → StageZero r xs → i < r .k → (changeCall r xs i .answer ≡ BadSheet) ↔ Cause r xs
+pub change-bad-sheet : (r : Settings) (xs : List ℕ) (i : ℕ) → LevelsPass r xs → StageZero r xs → i < r .k → (changeCall r xs i .answer ≡ BadSheet) ↔ Cause r xs
 change-bad-sheet r xs i a z l = Iff·trans (change-breaks r xs a i l) (sheet-cause r xs (a .genuine) z)
 
 -- where 01's own rules are kept a reading at stage 0 answers BadSheet exactly by a new cause
-pub read-new-causes : (r : Settings) (xs out : List ℕ) → PastLevels r xs → StageZero r xs → Keeps01 r xs → r .k ≤ length out → (readCall r xs out .answer ≡ BadSheet) ↔ NewCause r xs
+pub read-new-causes : (r : Settings) (xs out : List ℕ) → LevelsPass r xs → StageZero r xs → Keeps01 r xs → r .k ≤ length out → (readCall r xs out .answer ≡ BadSheet) ↔ NewCause r xs
 read-new-causes r xs out a z h l = Iff·trans (read-breaks r xs a out l) (new-causes r xs (a .genuine) z h)
 
 -- and so does a change
-pub change-new-causes : (r : Settings) (xs : List ℕ) (i : ℕ) → PastLevels r xs → StageZero r xs → Keeps01 r xs → i < r .k → (changeCall r xs i .answer ≡ BadSheet) ↔ NewCause r xs
+pub change-new-causes : (r : Settings) (xs : List ℕ) (i : ℕ) → LevelsPass r xs → StageZero r xs → Keeps01 r xs → i < r .k → (changeCall r xs i .answer ≡ BadSheet) ↔ NewCause r xs
 change-new-causes r xs i a z h l = Iff·trans (change-breaks r xs a i l) (new-causes r xs (a .genuine) z h)
 
 -- ---- what keeps the two rules

@@ -1,4 +1,4 @@
--- Demands 1, 2 and 3, one outcome for each call, and the impostors.
+-- Demands 1, 2 and 3, what breaks the sheet rules, the past of a plain sheet, one outcome for each call, and the impostors.
 pub mod Tight
 pub mod Before
 pub mod Up

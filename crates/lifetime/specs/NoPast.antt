@@ -1,4 +1,4 @@
--- An accepted staged sheet need not have a past (02, K7 speaks of plain sheets alone): one past stage 0 with too few levels has none. Assumes nothing.
+-- An accepted staged sheet need not have a past (02, K7 speaks of plain sheets alone): one at a later stage with too few levels in its blocks has none. Assumes nothing.
 use mathlib.Core.Path.{_≡_, refl, sym, ap, _∙_, subst}
 use mathlib.Core.List.{List, _∷_, _++_}
 use Prim.Native.Nat.{ℕ, _+_, _-_, _*_, _%_, _^_, _≤_, _<_}
@@ -15,7 +15,7 @@ use Rattle.rules.specs.Staged as S
 use Rattle.rules.specs.Batches.{batch, decode, entryOf, number}
 use Rattle.rules.specs.Batches as B
 use Rattle.rules.specs.Accept.{Genuine, accept, acceptStaged, batchStart, genuine?, indexWidth, reported, sameSettings?, stagesOf}
-use Rattle.rules.specs.AcceptLaws.{StagedFacts, genuine-staged, staged-bits}
+use Rattle.rules.specs.AcceptLaws.{StagedFacts, genuine-staged}
 use Rattle.rules.specs.BatchLaws.{StageIs, at-batch, at-0, batchFrom, stage-highest}
 use Rattle.rules.specs.Calls.{Pass, changeChecks, sound?}
 use Rattle.rules.specs.declared.Settings.{Settings}
@@ -25,23 +25,23 @@ use Rattle.laws.specs.Calls.{Accepted, change-checks, checked-holds}
 use Rattle.lifetime.specs.Storage as T
 use Rattle.lifetime.specs.Staged as F
 use Rattle.lifetime.specs.Change.{back, many, means, stored, Clean}
-use Rattle.lifetime.specs.Causes.{StageZero}
-use Rattle.lifetime.specs.Run.{Run, staged-runs}
+use Rattle.lifetime.specs.Causes.{StageZero, plain-zero}
+use Rattle.lifetime.specs.Run.{run-accepted, staged-runs}
 use Rattle.lifetime.specs.Past.{HasPast, past-run}
 use Rattle.lifetime.specs.Impostors.{two, even}
-use Rattle.lifetime.specs.Pretending.{plainCount}
+use Rattle.lifetime.specs.Pretending.{plain-count, plainCount}
 
 -- at stage 0, or with this many levels in the m blocks
 abbrev Raised : ℕ → Sheet → Type 0
 Raised c (stage0 xs) = Unit {0}
 Raised c (staged d xs es) = c ≤ sum xs
 
--- with this many it is so at any stage
+-- so it is with this many levels at any stage
 raised-any : (c : ℕ) (x : Sheet) → c ≤ F.levels x → Raised c x
 raised-any c (stage0 xs) h = tt
 raised-any c (staged d xs es) h = h
 
--- as many cells in the blocks at every stage
+-- the m blocks have as many cells at every stage
 fits-long : (s m L : ℕ) (x : Sheet) → F.Fits s m L x → length (F.blockCells x) ≡ m * 2 ^ s
 fits-long s m L (stage0 xs) w = w .long
 fits-long s m L (staged d xs es) w = w .long
@@ -51,7 +51,7 @@ module _ (s m L : ℕ) (g : 0 < L) (pos : 1 < s) (two : 1 < 2 ^ s) (even : 2 ^ s
   abbrev count : ℕ
   count = (m - 2 ^ s + 1) * (2 ^ s * L) + (2 ^ s - 1)
 
-  -- a change that leaves stage 0 finds no place there, so that many levels are raised
+  -- a change that leaves stage 0 finds no place there, so the plain count of levels is raised
   leaves-raised : (i : ℕ) → i < 2 ^ s → (xs : List ℕ) → F.Fits s m L (stage0 xs) → (y : Sheet) → change s m L i (stage0 xs) ≡ done y → sum xs ≤ F.levels y → Raised count y
   unfolding change
   leaves-raised i l xs w y e h = go (R.change (2 ^ s) L m i xs) refl e
@@ -60,7 +60,7 @@ module _ (s m L : ℕ) (g : 0 < L) (pos : 1 < s) (two : 1 < 2 ^ s) (even : 2 ^ s
       go (done ys) n e = let z : stage0 ys ≡ y = cc in subst (Raised count) z tt
       go noPlace n e = raised-any count y (omega (arith, P.no-place-law (2 ^ s) L m (m * 2 ^ s) two g even (le-refl (m * 2 ^ s)) i l xs w many n))
 
-  -- after any run the sheet is at stage 0, or that many levels are raised
+  -- after any run the sheet is at stage 0, or the plain count of levels is raised
   run-raised : {c : ℕ} {x : Sheet} → F.Run s m L c x → Raised count x
   run-raised F.begin = tt
   run-raised (F.more c i x y q l e) =
@@ -73,37 +73,40 @@ module _ (s m L : ℕ) (g : 0 < L) (pos : 1 < s) (two : 1 < 2 ^ s) (even : 2 ^ s
       go (stage0 xs) w e h r = leaves-raised i l xs w y e h
       go (staged d xs es) w e h r = raised-any count y (omega (arith, r))
 
--- staged: past stage 0, with fewer levels in its m blocks than demand 3's plain count, a sheet has no past
-pub few-levels : (r : Settings) → Genuine r → ¬ (r .kind ≡ 0) → (xs : List ℕ) → ¬ (StageZero r xs) → sum (take (r .m * r .k) xs) < plainCount r → ¬ (HasPast r xs)
-few-levels r g z xs late l h = go (stage-highest r g z xs) (run-raised (r .s) (r .m) (r .top) (p .top-least) (p .stages-least) (two r p) (even r p) (many r p) run)
+-- at a later stage, with fewer levels in its m blocks than demand 3's plain count, a sheet has no past
+pub few-levels : (r : Settings) (xs : List ℕ) → ¬ (StageZero r xs) → sum (take (r .m * r .k) xs) < plainCount r → ¬ (HasPast r xs)
+few-levels r xs late l h = go (stage-highest r g z xs) (run-raised (r .s) (r .m) (r .top) (p .top-least) (p .stages-least) (two r p) (even r p) (many r p) run)
   where
+    g : Genuine r
+    g = run-accepted r (past-run r (h .1)) .genuine
+
+    z : ¬ (r .kind ≡ 0)
+    z e = late (plain-zero r g e xs)
+
     p : StagedFacts r
     p = genuine-staged r g z
 
     run : F.Run (r .s) (r .m) (r .top) (length (h .0)) (means r p xs)
     run = T.run-law (r .s) (r .m) (r .top) (r .n) (means r p) (back r p) (Clean r p) (stored r p) (p .top-least) (p .stages-least) (many r p) (staged-runs r p (past-run r (h .1))) .1
 
-    same : (r .m - 2 ^ r .s + 1) * (2 ^ r .s * r .top) + (2 ^ r .s - 1) ≡ plainCount r
-    same = ap (λ (k : ℕ). (r .m - k + 1) * (k * r .top) + (k - 1)) (p .bits) ∙ omega (arith, staged-bits r p .0)
-
     go : {x : Sheet} → StageIs r xs x → Raised ((r .m - 2 ^ r .s + 1) * (2 ^ r .s * r .top) + (2 ^ r .s - 1)) x → ⊥
     go (at-0 n) w = late n
-    go (at-batch b q e a n) w = omega (arith, same)
+    go (at-batch b q e a n) w = omega (arith, plain-count r p)
 
--- ---- the smallest example
+-- ---- an example
 
 -- staged, k = 4, L = 1, n = 34: four blocks, and batch 1 from cell 16
 abbrev pub staged34 : Settings
 staged34 = accept 1 4 1 34
 
--- 1111 0000 0000 0000, 100 000 000 000 000 000
+-- a sheet of it: 1111 0000 0000 0000, 100 000 000 000 000 000
 abbrev pub fiveLevels : List ℕ
 fiveLevels = replicate 4 1 ++ (replicate 12 0 ++ (1 ∷ replicate 17 0))
 
--- every call accepts it, and no run of accepted changes ends in it: 4 levels in its blocks, and 7 before any move
+-- every call accepts the sheet, and no run of accepted changes ends in it: its blocks have 4 levels, and 7 are raised before any move
 pub staged-no-past : Accepted staged34 fiveLevels × ¬ (HasPast staged34 fiveLevels)
 unfolding sound? genuine? sameSettings? acceptStaged stagesOf indexWidth firstAbove sheetOk? B.sound? decode batch batchStart reported entryOf number stageOk? names? absent? all? first same? block ℕ-discrete decLe decLt
-staged-no-past = (accepted, few-levels staged34 (accepted .genuine) (λ e. let k : staged34 .kind ≡ 1 = refl in omega arith) fiveLevels late levels)
+staged-no-past = (accepted, few-levels staged34 fiveLevels late levels)
   where
     passes : changeChecks staged34 fiveLevels 0 ≡ Pass
     passes = refl

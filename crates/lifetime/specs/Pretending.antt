@@ -81,6 +81,10 @@ not-pretending p q kp kq r f xs i d bs es wr b w e a =
 abbrev pub plainCount : Settings → ℕ
 plainCount r = (r .m - r .k + 1) * r .k * r .top + r .k - 1
 
+-- the plain count of a staged record, as the plain laws write it
+pub plain-count : (r : Settings) → StagedFacts r → (r .m - 2 ^ r .s + 1) * (2 ^ r .s * r .top) + (2 ^ r .s - 1) ≡ plainCount r
+plain-count r p = ap (λ (k : ℕ). (r .m - k + 1) * (k * r .top) + (k - 1)) (p .bits) ∙ omega (arith, staged-bits r p .0)
+
 -- a run of the plain maps on the m blocks is a run of calls on a staged sheet that stays at stage 0
 module _ (r : Settings) (p : StagedFacts r) (g : Genuine r) where
   -- the cells of the m blocks
@@ -142,14 +146,12 @@ pub stage-zero-ends : (r : Settings) → StagedFacts r → Genuine r → StageZe
 stage-zero-ends r p g =
     let e : E.End (2 ^ r .s) (r .top) (r .m) (r .m * 2 ^ r .s) (two r p) (p .top-least) (even r p) (le-refl (r .m * 2 ^ r .s)) (many r p) =
     E.tight (2 ^ r .s) (r .top) (r .m) (r .m * 2 ^ r .s) (two r p) (p .top-least) (even r p) (le-refl (r .m * 2 ^ r .s)) (many r p) in
-    let h : (r .m - r .k + 1) * (r .k * r .top) + (r .k - 1) ≡ plainCount r = omega (arith, staged-bits r p .0) in
-    let q : (r .m - 2 ^ r .s + 1) * (2 ^ r .s * r .top) + (2 ^ r .s - 1) ≡ plainCount r = ap (λ (k : ℕ). (r .m - k + 1) * (k * r .top) + (k - 1)) (p .bits) ∙ h in
     record {
       blocks = e .xs;
       sheet = sheetOf r p g (e .xs);
-      run = subst (λ (c : ℕ). Run r c (sheetOf r p g (e .xs))) q (lifted r p g (e .run));
+      run = subst (λ (c : ℕ). Run r c (sheetOf r p g (e .xs))) (plain-count r p) (lifted r p g (e .run));
       stage = at-stage-0 r p g (e .run);
-      levels = blocks-law r p g (e .run) .1 ∙ q;
+      levels = blocks-law r p g (e .run) .1 ∙ plain-count r p;
       stuck = e .out;
     }
 
