@@ -1,9 +1,10 @@
 //! The past of a plain sheet: a run of changes from the erased sheet that ends in it, or that there
 //! is none.
 //!
-//! A third statement of which plain sheets are accepted. It asks neither for a repeated bit nor for
-//! the order of blocks, as a reading does: it makes the run, one block finished before the next is
-//! begun, and gives up at a block that no change begins.
+//! Which plain sheets are accepted, by what a change does and not by the rules that a reading asks
+//! for: a change begins the lowest-numbered empty block, and only for a bit without an active one. So
+//! the run is made, one block finished before the next is begun, up to a block that no change begins.
+//! What one block is, is told as a reading tells it.
 
 pub mod command;
 pub mod later;
@@ -12,6 +13,7 @@ mod search;
 use crate::plain::Block;
 use crate::{change, check_levels, check_shape_and_length, erase, sum, Answer, Settings};
 use std::fmt::{self, Display, Formatter};
+use std::str::FromStr;
 
 pub use search::reached;
 
@@ -30,6 +32,24 @@ impl Display for Turns {
             1 => write!(f, "bit {}, once", self.bit),
             times => write!(f, "bit {}, {times} times", self.bit),
         }
+    }
+}
+
+/// A stretch as it is displayed.
+impl FromStr for Turns {
+    type Err = String;
+
+    fn from_str(text: &str) -> Result<Turns, String> {
+        let parts = || {
+            let (bit, times) = text.strip_prefix("bit ")?.split_once(", ")?;
+            let times = match times {
+                "once" => 1,
+                times => times.strip_suffix(" times")?.parse().ok()?,
+            };
+            let bit = bit.parse().ok()?;
+            Some(Turns { bit, times })
+        };
+        parts().ok_or(format!("no stretch of a run: {text}"))
     }
 }
 

@@ -4,15 +4,24 @@ use crate::Settings;
 
 /// The settings, and these numbers.
 pub fn row(settings: &Settings, numbers: &[u64]) -> String {
+    named(&name(settings), numbers)
+}
+
+/// The settings in words.
+pub fn name(settings: &Settings) -> String {
     let kind = ["plain", "staged"][settings.kind];
     let Settings { k, top, n, .. } = *settings;
-    named(&format!("{kind} k = {k}, L = {top}, n = {n}"), numbers)
+    format!("{kind} k = {k}, L = {top}, n = {n}")
 }
 
 /// The sums of these numbers, place by place.
-pub fn sums<const N: usize>(rows: &[[u64; N]]) -> String {
-    let sum = |place: usize| rows.iter().map(|row| row[place]).sum();
-    named("all", &std::array::from_fn::<u64, N, _>(sum))
+pub fn summed<const N: usize>(rows: &[[u64; N]]) -> [u64; N] {
+    std::array::from_fn(|place| rows.iter().map(|row| row[place]).sum())
+}
+
+/// A last row: the sums of the rows above it.
+pub fn total<const N: usize>(rows: &[[u64; N]]) -> String {
+    named("all", &summed(rows))
 }
 
 fn named(name: &str, numbers: &[u64]) -> String {
@@ -21,7 +30,7 @@ fn named(name: &str, numbers: &[u64]) -> String {
 }
 
 /// A number with a comma before each three digits.
-pub fn grouped(number: u64) -> String {
+fn grouped(number: u64) -> String {
     match number / 1000 {
         0 => number.to_string(),
         thousands => format!("{},{:03}", grouped(thousands), number % 1000),

@@ -6,7 +6,7 @@ mod common;
 use common::{accept, bits, cells, group_tells, has_a_past, sum};
 use second::compare::past::{settings, table, Counts};
 use second::compare::refused::{assignments, Refused};
-use second::past::{later, length, replay, run_to, Turns};
+use second::past::{command, later, length, replay, run_to, Turns};
 use second::random::Random;
 use second::sheets::{accepted, every, some_settings, Damage};
 use second::{read, Answer, Flaw, Settings};
@@ -22,8 +22,9 @@ const READINGS: [Flaw; 6] = [
     Flaw::FullLastNever,
 ];
 
-/// Of every assignment of levels: a reading is Done, changes reach the sheet and its run ends in it,
-/// with as many changes as levels; or it is BadSheet, not reached, and has no run.
+/// Of every assignment of levels: a reading is Done, changes reach the sheet and the run that is
+/// printed for it ends in it, with as many changes as levels; or it is BadSheet, not reached, and no
+/// run is printed.
 #[test]
 fn every_sheet_of_tiny_settings() {
     assert_eq!(settings().len(), 11);
@@ -68,6 +69,11 @@ fn flaws_show() {
     }
 }
 
+/// A line of a printed run.
+fn parsed(line: &str) -> Turns {
+    line.parse().unwrap()
+}
+
 #[test]
 fn larger_sheets() {
     let mut random = Random::new(6);
@@ -84,6 +90,9 @@ fn larger_sheets() {
             let sheet = accepted(&mut random, &settings, 0);
             let run = run_to(&settings, &sheet).unwrap();
             assert_eq!(length(&run), sum(&sheet));
+            let printed = command::plain(k as u8, top as u8, &sheet).text;
+            let lines: Vec<Turns> = printed.lines().skip(1).map(parsed).collect();
+            assert_eq!(lines, run);
             assert_eq!(replay(&settings, &run), Ok(sheet), "{asked:?}");
         }
     }
@@ -111,6 +120,14 @@ fn a_reading_says_whether_there_is_one() {
     assert_eq!(seen, [0, 2, 5, 6], "{counts:?}");
 }
 
+/// A sheet of another length with a level too high is BadLength, as for a call.
+#[test]
+fn length_before_levels() {
+    let settings = accept(0, 4, 2, 16);
+    assert_eq!(run_to(&settings, &[3; 17]), Err(Answer::BadLength));
+    assert_eq!(run_to(&settings, &[3; 16]), Err(Answer::BadLevel(0)));
+}
+
 /// One stretch for each block in use, and a full one by the lowest bit without an active block.
 #[test]
 fn a_run() {
@@ -122,6 +139,32 @@ fn a_run() {
     assert_eq!(replay(&settings, &run), Ok(sheet));
     let once_more = [&run[..], &[Turns { bit: 2, times: 1 }]].concat();
     assert_eq!(replay(&settings, &once_more), Err(Answer::Erase));
+    let printed = command::plain(4, 2, &replay(&settings, &run).unwrap());
+    let lines = [
+        "31 changes from an erased sheet end in it:",
+        "bit 0, 8 times",
+        "bit 1, 4 times",
+        "bit 0, 8 times",
+        "bit 0, 2 times",
+        "bit 2, 8 times",
+        "bit 3, once",
+    ];
+    assert_eq!((printed.text, printed.status), (lines.join("\n") + "\n", 0));
+}
+
+/// What is no line of a run.
+#[test]
+fn no_stretch() {
+    for text in [
+        "",
+        "bit 1",
+        "bit x, once",
+        "bit 1, 2",
+        "bit 1, x times",
+        "pen 1, once",
+    ] {
+        assert!(text.parse::<Turns>().is_err(), "{text}");
+    }
 }
 
 /// No plain sheet has the settings.
@@ -134,14 +177,34 @@ fn settings_of_no_plain_sheet() {
     assert_eq!(replay(&zeros, &[]), Err(Answer::BadShape));
 }
 
+/// How many sheets have so many levels raised: cell by cell, by the levels that it can have.
+fn assignments_of(settings: &Settings, levels: usize) -> u64 {
+    let mut counts = vec![0; levels + 1];
+    counts[0] = 1;
+    for _ in 0..settings.n {
+        let before = |sum: usize| counts[sum.saturating_sub(settings.top)..=sum].iter().sum();
+        counts = (0..=levels).map(before).collect::<Vec<u64>>();
+    }
+    counts[levels]
+}
+
 /// With up to 5 levels raised every accepted sheet of the small staged settings is at stage 0 and
 /// reached, save for k = 4 and L = 1, where some at stage 1 have 5 and none of those is reached.
 #[test]
 fn the_smallest_staged_sheet_without_a_past() {
     let mut found = Vec::new();
-    for settings in later::searched() {
-        for (levels, layer) in later::layers(&settings).into_iter().enumerate() {
+    let searched = [
+        accept(1, 4, 1, 34),
+        accept(1, 4, 2, 28),
+        accept(1, 4, 5, 22),
+    ];
+    assert_eq!(later::searched(), searched);
+    for settings in searched {
+        let layers = later::layers(&settings);
+        assert_eq!(layers.len(), 6);
+        for (levels, layer) in layers.into_iter().enumerate() {
             println!("{settings:?}, {levels} levels: {layer:?}");
+            assert_eq!(layer.sheets, assignments_of(&settings, levels));
             assert_eq!(layer.stage_0_reached, layer.stage_0);
             assert_eq!(layer.later_reached, 0);
             assert_eq!(layer.later > 0, layer.without_past.is_some());
@@ -197,7 +260,7 @@ fn the_command_tells_a_run() {
 
 #[test]
 fn the_command_says_why_there_is_none() {
-    let broken = "none: the cells break the rules (BadSheet), and no run of changes from an erased sheet ends in them\n";
+    let broken = "none: the cells break the rules (BadSheet): no run of changes from an erased sheet ends in them\n";
     for (blocks, told) in [
         ("0000 2222 0000 0000", broken),
         ("1000 1000 0000 0000", broken),
@@ -205,11 +268,7 @@ fn the_command_says_why_there_is_none() {
         ("1000 0100 0010 0001 2222", broken),
         (
             "0000 0300 0040 0000",
-            "none: cell 5 is above the top level (BadLevel)\n",
-        ),
-        (
-            "0000 0000 0000 000",
-            "none: no sheet has such settings (BadShape)\n",
+            "none: cell 5 is above the top level (BadLevel), where no call puts it\n",
         ),
     ] {
         let said = past(&format!("plain 4 2 {}", words(&cells(blocks))));
@@ -222,33 +281,54 @@ fn the_command_takes_no_other_words() {
     let (status, usage, err) = past("--help");
     assert_eq!((status, &err[..]), (0, ""));
     assert!(usage.starts_with("usage: past plain BITS TOP LEVEL..: "));
+    assert_eq!(past("-h"), (0, usage.clone(), String::new()));
     for words in [
         "",
         "plain",
         "plain 4",
-        "plain 4 x 0",
-        "plain 4 2 256",
+        "plain 4 2",
         "both 4 2 0",
         "--table 1",
     ] {
         assert_eq!(past(words), (2, String::new(), usage.clone()), "{words}");
     }
+    for (words, wrong) in [
+        ("4 x 0", "x"),
+        ("4 2 0 256 y", "256"),
+        ("2 1 1,0,0,1", "1,0,0,1"),
+    ] {
+        let text = format!("'{wrong}' is no number from 0 to 255\n{usage}");
+        assert_eq!(past(&format!("plain {words}")), (2, String::new(), text));
+    }
+    let text = "no plain sheet of 15 cells has 4 bits and the top level 2 (BadShape): are all levels given, each as a word?\n";
+    let said = past(&format!("plain 4 2 {}", words(&[0; 15])));
+    assert_eq!(said, (2, String::new(), String::from(text)));
     let (status, out, err) = past("staged 4 2 0 0 0");
     assert_eq!((status, &out[..]), (2, ""));
     assert!(err.starts_with("of staged sheets nothing is claimed: "));
 }
 
+/// A text that can't be written is told.
+#[test]
+fn the_command_says_what_it_can_not_write() {
+    let full = std::fs::OpenOptions::new().write(true).open("/dev/full");
+    let mut command = Command::new(env!("CARGO_BIN_EXE_past"));
+    let command = command.args(["plain", "2", "1", "0", "0", "0", "0"]);
+    let ended = command.stdout(full.unwrap()).output().unwrap();
+    assert_eq!(ended.status.code(), Some(2));
+    assert!(ended.stderr.starts_with(b"past: "));
+}
+
 /// As many cells and levels as there can be.
 #[test]
 fn the_command_takes_the_widest_sheets() {
-    for (asked, line) in [
-        ("64 255", "bit 0, 16320 times\n"),
-        ("2 255", "bit 0, 510 times\n"),
+    for (asked, line, blocks) in [
+        ("64 255", "bit 0, 16320 times\n", 256),
+        ("2 255", "bit 0, 510 times\n", 8_192),
     ] {
         let (status, out, _) = past(&format!("plain {asked} {}", words(&[255; 16_384])));
         let head = "4177920 changes from an erased sheet end in it:\n";
-        let lines = (out.len() - head.len()) / line.len();
-        assert_eq!((status, out), (0, head.to_string() + &line.repeat(lines)));
+        assert_eq!((status, out), (0, head.to_string() + &line.repeat(blocks)));
     }
 }
 
@@ -256,7 +336,7 @@ fn the_command_takes_the_widest_sheets() {
 fn the_command_prints_what_is_searched() {
     let (table, no_past) = (table().unwrap(), later::table());
     assert_eq!(table.lines().count(), 3 + settings().len());
-    let last = "no run ends in 1111 0000 0000 0000, 100 000 000 000 000 000, with 5 levels raised";
+    let last = "staged k = 4, L = 1, n = 34: no run ends in 1111 0000 0000 0000, 100 000 000 000 000 000, with 5 levels raised";
     assert_eq!(no_past.lines().last(), Some(last));
     assert_eq!(past("--table"), (0, table, String::new()));
     assert_eq!(past("--no-past"), (0, no_past, String::new()));

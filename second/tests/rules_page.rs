@@ -4,7 +4,7 @@ mod common;
 
 use common::{accept, bits, cells, checked_change, has_a_past, sum};
 use second::compare::{past, refused};
-use second::past::command::said;
+use second::past::{command::said, later};
 use second::{read, Answer, Settings};
 
 const PAGE: &str = concat!(env!("CARGO_MANIFEST_DIR"), "/../docs/RULES.md");
@@ -199,4 +199,22 @@ fn sheets_refused_for_the_order_of_their_blocks() {
 #[test]
 fn accepted_plain_sheets_have_a_past() {
     has_table(&past::table().unwrap());
+}
+
+/// The sheet that the search names, why no run ends in it, and what was searched.
+#[test]
+fn the_smallest_staged_sheets_have_none() {
+    says("With k = 4, L = 1 and n = 34 the sheet 1111 0000 0000 0000, 100 000 000 000 000 000 is accepted and reads 0000, and no run");
+    says("the plain guarantee, which is 7 here; this sheet has 4 in its blocks");
+    says("It is one of the smallest by the levels raised, of which it has 5.");
+    let settings = accept(1, 4, 1, 34);
+    let sheet = cells("1111 0000 0000 0000, 100 000 000 000 000 000");
+    assert_eq!(bits(&settings, &sheet), [0; 4]);
+    assert_eq!((sum(&sheet), sum(&sheet[..16])), (5, 4));
+    assert_eq!(accept(0, 4, 1, 16).guarantee(), 7);
+    assert!(!has_a_past(&settings, &sheet));
+    let found = later::table();
+    let (table, named) = found.split_once("\n\n").unwrap();
+    has_table(table);
+    assert!(named.contains("1111 0000 0000 0000, 100 000 000 000 000 000, with 5 levels"));
 }

@@ -1,5 +1,5 @@
-//! Says how a plain sheet that has come back can have been made: the run of changes from an erased
-//! sheet that ends in it, or that there is none.
+//! Says how a plain sheet that has come back can have been made: a run of changes from an erased sheet
+//! that ends in it, or that there is none.
 //!
 //! ```text
 //! past plain BITS TOP LEVEL..
@@ -7,20 +7,24 @@
 //! past --no-past
 //! ```
 //!
-//! - `plain`: number of bits, top level and the level of every cell, as words. The exit status is 0
-//!   for a run, 1 where there is none.
+//! - `plain`: number of bits, top level and the level of every cell, each a word of its own.
 //! - `--table`: prints a table over every assignment of levels of tiny plain settings: how many are
 //!   accepted, how many changes reach, and how many have a run.
-//! - `--no-past`: prints a search for the smallest accepted staged sheet that no run ends in.
+//! - `--no-past`: prints a search for the smallest accepted staged sheets that no run ends in.
 //!
-//! Of staged sheets nothing is claimed. For them, and for wrong words, the exit status is 2.
+//! The exit status is 0 where that is told, 1 where no run ends in the plain sheet, and 2 where
+//! nothing is told: of a staged sheet, for which nothing is claimed, of settings that no sheet has,
+//! for wrong words, where the table's counts do not agree, and where nothing can be written.
 
 use second::past::command::said;
 use std::io::{stderr, stdout, Write};
 use std::process::ExitCode;
 
 fn main() -> ExitCode {
-    let words: Vec<String> = std::env::args().skip(1).collect();
+    let words = std::env::args_os().skip(1);
+    let words: Vec<String> = words
+        .map(|word| word.to_string_lossy().into_owned())
+        .collect();
     let said = said(&words);
     let written = match said.status {
         2 => stderr().write_all(said.text.as_bytes()),
@@ -28,6 +32,9 @@ fn main() -> ExitCode {
     };
     match written {
         Ok(()) => ExitCode::from(said.status),
-        Err(_) => ExitCode::from(2),
+        Err(wrong) => {
+            eprintln!("past: {wrong}");
+            ExitCode::from(2)
+        }
     }
 }

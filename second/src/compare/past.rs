@@ -2,21 +2,22 @@
 //! of changes from the erased sheet ends in it.
 //!
 //! The table counts it on the model in three ways: by readings, by a search that makes every run of
-//! changes, and by the run that is told from the sheet. The group holds the library to it.
+//! changes, and by the run that the command prints. The group makes the same readings and runs on the
+//! library, and each call is compared with the model's.
 
 use super::case::{Call, Case};
 use super::comparison::Comparison;
-use super::library::Reply;
 use super::plan::Size;
 use super::refused::{self, reached};
 use super::tiny::PLAIN;
+use crate::past::command::plain;
 use crate::past::{bits, length, replay, run_to, Turns};
 use crate::sheets::every;
-use crate::table::{row, sums};
+use crate::table::{row, total};
 use crate::{read, sum, Answer, Settings};
 
-/// Every assignment of levels of the tiniest plain settings, in a light run of those with 2 bits:
-/// read, which is Done exactly if the sheet has a run, and that run made from erase on.
+/// Every assignment of levels of the tiniest plain settings, in a light run of those with 2 bits: each
+/// read, and the run that ends in it made, where there is one.
 pub(super) fn past(comparison: &mut Comparison, size: Size) {
     for asked in PLAIN {
         let settings = Settings::asked(asked);
@@ -25,37 +26,34 @@ pub(super) fn past(comparison: &mut Comparison, size: Size) {
         }
         for sheet in every(settings.n, settings.top as u8) {
             let case = Case::on(Call::Read, &settings, &sheet);
-            let (reply, run) = (comparison.compare(&case), run_to(&settings, &sheet));
-            let holds = reply.is_none_or(|reply| (reply.answer == 0) == run.is_ok());
-            comparison.require(holds, &case, || match run.is_ok() {
-                true => String::from("a run of changes ends in this sheet"),
-                false => String::from("no run of changes ends in this sheet"),
-            });
-            if let Ok(run) = run {
+            comparison.compare(&case);
+            if let Ok(run) = run_to(&settings, &sheet) {
                 make(comparison, case, &run);
             }
         }
     }
 }
 
-/// Erases the case's sheet and makes the run's changes: each raises one level, and the last leaves
-/// the sheet again.
+/// Erases the case's sheet and makes the run's changes, each on the sheet that the one before left.
 fn make(comparison: &mut Comparison, mut case: Case, run: &[Turns]) {
-    let sheet = case.sheet.clone();
     case.call = Call::Erase;
     comparison.compare(&case);
     case.call = Call::Change;
     for bit in bits(run) {
         case.sheet.copy_from_slice(comparison.sheet());
         case.bit = bit;
-        let reply = comparison.compare(&case);
-        let done = Reply::from(Answer::Done(1));
-        comparison.require(reply.is_none_or(|reply| reply == done), &case, || {
-            format!("no step of the run to {sheet:?}")
-        });
+        comparison.compare(&case);
     }
-    let ends = comparison.sheet() == sheet;
-    comparison.require(ends, &case, || format!("the run does not end in {sheet:?}"));
+}
+
+/// The run that the command prints for this sheet, or the status it ends with.
+fn printed(settings: &Settings, sheet: &[u8]) -> Result<Vec<Turns>, u8> {
+    let said = plain(settings.k as u8, settings.top as u8, sheet);
+    let lines = said.text.lines().skip(1).map(str::parse);
+    match said.status {
+        0 => lines.collect::<Result<_, _>>().map_err(|_| 0),
+        status => Err(status),
+    }
 }
 
 /// How many sheets of one record of plain settings are accepted, are reached and have a run.
@@ -67,7 +65,7 @@ pub struct Counts {
     pub accepted: u64,
     /// Reached by the search that makes every run of changes.
     pub reached: u64,
-    /// With a run that ends in the sheet when it is made.
+    /// With a printed run that ends in the sheet when it is made.
     pub with_run: u64,
     /// The changes of all these runs.
     pub changes: u64,
@@ -81,14 +79,14 @@ impl Counts {
         let mut counts = Counts::default();
         for sheet in every(settings.n, settings.top as u8) {
             let answer = read(settings, &sheet, &mut [0; 64]);
-            let run = run_to(settings, &sheet);
+            let run = printed(settings, &sheet);
             let ends = |run: &Vec<Turns>| replay(settings, run).as_ref() == Ok(&sheet);
             let found = [
                 matches!(answer, Answer::Done(_)),
                 reached.contains(&sheet),
                 run.as_ref().is_ok_and(ends),
             ];
-            let refused = answer == Answer::BadSheet && run == Err(Answer::BadSheet);
+            let refused = answer == Answer::BadSheet && run == Err(1);
             let changes = run.as_deref().map_or(0, length);
             if found != [!refused; 3] || (!refused && changes != sum(&sheet)) {
                 return Err(format!(
@@ -135,10 +133,10 @@ pub fn table() -> Result<String, String> {
         table += &row(&settings, &numbers);
         rows.push(numbers);
     }
-    Ok(table + &sums(&rows))
+    Ok(table + &total(&rows))
 }
 
 const HEAD: &str = "\
-| settings | assignments of levels | accepted | reached by changes | with a run that ends in it | changes of all these runs |
+| settings | assignments of levels | accepted | reached by changes | with a printed run that ends in it | changes of all these runs |
 | --- | ---: | ---: | ---: | ---: | ---: |
 ";

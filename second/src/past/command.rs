@@ -9,12 +9,12 @@ use crate::{Answer, Settings};
 pub struct Said {
     /// The text, whole lines.
     pub text: String,
-    /// 0 where what was asked for is told, 1 where there is no run, 2 where nothing is told.
+    /// 0 where what was asked for is told, 1 where no run ends in the sheet, 2 where nothing is told.
     pub status: u8,
 }
 
 const USAGE: &str = "\
-usage: past plain BITS TOP LEVEL..: the levels of all cells, 0 to 255 each
+usage: past plain BITS TOP LEVEL..: number of bits, top level and the level of every cell, each a word of its own
        past --table: every sheet of tiny plain settings is searched for its past
        past --no-past: small staged sheets are searched for one without a past
 ";
@@ -27,31 +27,55 @@ of staged sheets nothing is claimed: an accepted one of a later stage need not h
 pub fn said(words: &[String]) -> Said {
     let words: Vec<&str> = words.iter().map(String::as_str).collect();
     let (text, status) = match words[..] {
-        ["--help"] => (String::from(USAGE), 0),
+        ["--help" | "-h"] => (String::from(USAGE), 0),
         ["--no-past"] => (later::table(), 0),
         ["--table"] => match past::table() {
             Ok(table) => (table, 0),
-            Err(wrong) => (wrong + "\n", 1),
+            Err(wrong) => (wrong + "\n", 2),
         },
         ["staged", ..] => (String::from(STAGED), 2),
-        ["plain", ref numbers @ ..] => return plain(numbers),
+        ["plain", ref words @ ..] => match numbers(words) {
+            Ok(numbers) => return of_numbers(&numbers),
+            Err(wrong) => (wrong + USAGE, 2),
+        },
         _ => (String::from(USAGE), 2),
     };
     Said { text, status }
 }
 
-/// Bits, top level and the levels of a plain sheet.
-fn plain(words: &[&str]) -> Said {
-    let numbers: Result<Vec<u8>, _> = words.iter().map(|word| word.parse()).collect();
-    let (text, status) = match numbers.as_deref() {
-        Ok(&[bits, top, ref sheet @ ..]) => {
-            let (_, settings) = Settings::accept(0, bits.into(), top.into(), sheet.len() as u64);
-            match run_to(&settings, sheet) {
-                Ok(run) => (told(&run), 0),
-                Err(refusal) => (none(refusal), 1),
-            }
-        }
-        _ => (String::from(USAGE), 2),
+/// The numbers that these words are, or the first that is none.
+fn numbers(words: &[&str]) -> Result<Vec<u8>, String> {
+    let number = |word: &&str| {
+        word.parse()
+            .map_err(|_| format!("'{word}' is no number from 0 to 255\n"))
+    };
+    words.iter().map(number).collect()
+}
+
+/// Number of bits, top level and the levels of all cells.
+fn of_numbers(numbers: &[u8]) -> Said {
+    match *numbers {
+        [bits, top, ref sheet @ ..] if !sheet.is_empty() => plain(bits, top, sheet),
+        _ => Said {
+            text: String::from(USAGE),
+            status: 2,
+        },
+    }
+}
+
+/// What is said of a plain sheet with so many bits and this top level.
+pub fn plain(bits: u8, top: u8, sheet: &[u8]) -> Said {
+    let cells = sheet.len();
+    let (_, settings) = Settings::accept(0, bits.into(), top.into(), cells as u64);
+    let (text, status) = match run_to(&settings, sheet) {
+        Ok(run) => (told(&run), 0),
+        Err(Answer::BadShape) => (
+            format!(
+                "no plain sheet of {cells} cells has {bits} bits and the top level {top} (BadShape): are all levels given, each as a word?\n"
+            ),
+            2,
+        ),
+        Err(refusal) => (none(refusal), 1),
     };
     Said { text, status }
 }
@@ -69,15 +93,14 @@ fn told(run: &[Turns]) -> String {
     text
 }
 
-/// Why there is none.
+/// Why no run ends in the sheet.
 fn none(refusal: Answer) -> String {
     match refusal {
-        Answer::BadShape => String::from("none: no sheet has such settings (BadShape)\n"),
         Answer::BadLevel(cell) => {
-            format!("none: cell {cell} is above the top level (BadLevel)\n")
+            format!("none: cell {cell} is above the top level (BadLevel), where no call puts it\n")
         }
         _ => format!(
-            "none: the cells break the rules ({refusal:?}), and no run of changes from an erased sheet ends in them\n"
+            "none: the cells break the rules ({refusal:?}): no run of changes from an erased sheet ends in them\n"
         ),
     }
 }

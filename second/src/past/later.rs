@@ -6,7 +6,7 @@
 
 use super::reached;
 use crate::sheets::every_of_sum;
-use crate::table::{grouped, row};
+use crate::table::{name, row, summed, total};
 use crate::{read, sum, Answer, Settings};
 use std::collections::HashSet;
 
@@ -72,9 +72,8 @@ impl Layer {
         }
     }
 
-    fn numbers(&self, levels: usize) -> [u64; 6] {
+    fn numbers(&self) -> [u64; 5] {
         [
-            levels as u64,
             self.sheets,
             self.stage_0,
             self.stage_0_reached,
@@ -84,27 +83,33 @@ impl Layer {
     }
 }
 
-/// What is found for all settings as a table, how many sheets were gone through, and the first one
-/// with no past for each settings that have one.
+/// What is found for all settings as a table with its sums, and below it the first sheet with no past
+/// of each number of levels raised.
 pub fn table() -> String {
-    let (mut table, mut found, mut sheets) = (String::from(HEAD), String::new(), 0);
+    let (mut rows, mut lines, mut found) = (Vec::new(), String::new(), String::new());
     for settings in searched() {
-        for (levels, layer) in layers(&settings).iter().enumerate() {
-            table += &row(&settings, &layer.numbers(levels));
-            sheets += layer.sheets;
+        let layers = layers(&settings);
+        let numbers: Vec<[u64; 5]> = layers.iter().map(Layer::numbers).collect();
+        rows.push(summed(&numbers));
+        lines += &row(&settings, &summed(&numbers));
+        for (levels, layer) in layers.iter().enumerate() {
             if let Some(sheet) = &layer.without_past {
-                let shown = shown(&settings, sheet);
-                found += &format!("no run ends in {shown}, with {levels} levels raised\n");
+                let (name, shown) = (name(&settings), shown(&settings, sheet));
+                found += &format!("{name}: no run ends in {shown}, with {levels} levels raised\n");
             }
         }
     }
-    format!("{table}\n{} sheets in all\n{found}", grouped(sheets))
+    format!("{}{lines}{}\n{found}", head(), total(&rows))
 }
 
-const HEAD: &str = "\
-| settings | levels raised | sheets | accepted at stage 0 | of these reached | accepted at a later stage | of these reached |
-| --- | ---: | ---: | ---: | ---: | ---: | ---: |
-";
+fn head() -> String {
+    format!(
+        "\
+| settings | sheets with up to {MOST} levels raised | accepted at stage 0 | of these reached | accepted at a later stage | of these reached |
+| --- | ---: | ---: | ---: | ---: | ---: |
+"
+    )
+}
 
 /// The blocks, then the index blocks, of a sheet whose levels are all below 10.
 pub fn shown(settings: &Settings, sheet: &[u8]) -> String {
