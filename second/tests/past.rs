@@ -1,11 +1,11 @@
-//! The past of plain sheets: which of them a run of changes ends in, and that run. The smallest
-//! accepted staged sheet that has none. What the command for support says of it.
+//! The past of plain sheets: which of them a run of changes ends in, and that run. One of the smallest
+//! accepted staged sheets that have none. What the command for support says of it.
 
 mod common;
 
 use common::{accept, bits, cells, group_tells, has_a_past, sum};
-use second::compare::past::{settings, table, Counts};
-use second::compare::refused::{assignments, Refused};
+use second::compare::past::{printed, settings, table, Counts};
+use second::compare::refused::{self, assignments, Refused};
 use second::past::{command, later, length, replay, run_to, Turns};
 use second::random::Random;
 use second::sheets::{accepted, every, some_settings, Damage};
@@ -65,8 +65,39 @@ fn flaws_show() {
     for flaw in READINGS.into_iter().chain([Flaw::SecondEmpty]) {
         let counts = flaw.during(|| Counts::of(&settings));
         println!("{flaw:?}: {}", counts.unwrap_err());
+        let table = flaw.during(|| command::said(&[String::from("--table")]));
+        assert_eq!(table.status, 2, "{flaw:?}");
         group_tells("past", flaw);
     }
+}
+
+/// Each of the three ways to count is one by itself: a sheet that is not reached though it has a run,
+/// one that is reached though it has none, a run that ends elsewhere, and one that is not printed.
+#[test]
+fn each_count_shows() {
+    let settings = accept(0, 2, 1, 8);
+    let reached = refused::reached(&settings);
+    assert!(Counts::with(&settings, &reached, printed).is_ok());
+    let sheet = cells("11 10 00 00");
+    let mut fewer = reached.clone();
+    assert!(fewer.remove(&sheet));
+    assert!(Counts::with(&settings, &fewer, printed).is_err());
+    let mut more = reached.clone();
+    assert!(more.insert(cells("11 00 10 00")));
+    assert!(Counts::with(&settings, &more, printed).is_err());
+    let elsewhere = |settings: &Settings, of: &[u8]| {
+        let mut run = printed(settings, of)?;
+        if of == sheet {
+            run[1].bit = 1;
+        }
+        Ok(run)
+    };
+    assert!(Counts::with(&settings, &reached, elsewhere).is_err());
+    let none = |settings: &Settings, of: &[u8]| match of == sheet {
+        true => Err(1),
+        false => printed(settings, of),
+    };
+    assert!(Counts::with(&settings, &reached, none).is_err());
 }
 
 /// A line of a printed run.

@@ -1,4 +1,4 @@
--- The sheet before: an accepted plain sheet with a level above 0 is what a change of the maps makes of an accepted one with a level fewer. Assumes nothing.
+-- The sheet before: an accepted plain sheet with a level above 0 is what a change of the maps makes of an accepted one with one level fewer. Assumes nothing.
 -- That one has the last block in use a level lower. So every accepted plain sheet has a run of the maps, by induction on the sum of its levels.
 use mathlib.Core.List.{List}
 use mathlib.Core.Logic.{_≢_}
@@ -128,7 +128,7 @@ module _ (k L m n : ℕ) (two : 1 < k) (g : 0 < L) (even : k * L % 2 ≡ 0) (roo
         let f = some-not (λ i. some? (λ x. hasBit? i (st x)) m) k (λ h. a .packed .1 (h, subst IsFull (sym (last-one (last-is st m) j l busy last ∙ e)) tt)) in
         (f .0, f .1, λ x lx w. f .2 (x, lx, w))
 
-    -- a full block was a level short, with a bit that has no active block now; an active one was empty, or a step back
+    -- block j one level lower: a full one becomes the last step of a bit that has no active block; an active one becomes empty, or its own step before
     from-last : (t : State) → st j ≡ t → Before xs
     from-last empty e = absurd (busy (subst IsEmpty (sym e) tt))
     from-last broken e = absurd (subst (Proper k (k * L)) e (a .lawful .proper j l))

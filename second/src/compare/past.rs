@@ -15,6 +15,7 @@ use crate::past::{bits, length, replay, run_to, Turns};
 use crate::sheets::every;
 use crate::table::{row, total};
 use crate::{read, sum, Answer, Settings};
+use std::collections::HashSet;
 
 /// Every assignment of levels of the tiniest plain settings, in a light run of those with 2 bits: each
 /// read, and the run that ends in it made, where there is one.
@@ -34,8 +35,10 @@ pub(super) fn past(comparison: &mut Comparison, size: Size) {
     }
 }
 
-/// Erases the case's sheet and makes the run's changes, each on the sheet that the one before left.
+/// Erases the case's sheet and makes the run's changes, each on the sheet that the one before left: the
+/// last leaves the sheet again.
 fn make(comparison: &mut Comparison, mut case: Case, run: &[Turns]) {
+    let sheet = case.sheet.clone();
     case.call = Call::Erase;
     comparison.compare(&case);
     case.call = Call::Change;
@@ -44,10 +47,12 @@ fn make(comparison: &mut Comparison, mut case: Case, run: &[Turns]) {
         case.bit = bit;
         comparison.compare(&case);
     }
+    let ends = comparison.sheet() == sheet;
+    comparison.require(ends, &case, || format!("the run does not end in {sheet:?}"));
 }
 
 /// The run that the command prints for this sheet, or the status it ends with.
-fn printed(settings: &Settings, sheet: &[u8]) -> Result<Vec<Turns>, u8> {
+pub fn printed(settings: &Settings, sheet: &[u8]) -> Result<Vec<Turns>, u8> {
     let said = plain(settings.k as u8, settings.top as u8, sheet);
     let lines = said.text.lines().skip(1).map(str::parse);
     match said.status {
@@ -75,7 +80,15 @@ impl Counts {
     /// Goes through every assignment of levels, or names the first sheet that is neither all three
     /// nor BadSheet and none of them.
     pub fn of(settings: &Settings) -> Result<Counts, String> {
-        let reached = reached(settings);
+        Counts::with(settings, &reached(settings), printed)
+    }
+
+    /// The same for the sheets that are reached, and for what is printed of a sheet.
+    pub fn with(
+        settings: &Settings,
+        reached: &HashSet<Vec<u8>>,
+        printed: impl Fn(&Settings, &[u8]) -> Result<Vec<Turns>, u8>,
+    ) -> Result<Counts, String> {
         let mut counts = Counts::default();
         for sheet in every(settings.n, settings.top as u8) {
             let answer = read(settings, &sheet, &mut [0; 64]);

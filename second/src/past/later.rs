@@ -1,4 +1,5 @@
-//! Accepted staged sheets that no run of changes ends in: the one with the fewest levels raised.
+//! Accepted staged sheets of a later stage that no run of changes ends in: the first with the fewest
+//! levels raised.
 //!
 //! All sheets are gone through by levels raised, and within one number of them in the order of
 //! counting with cell 0 as the lowest digit. A change raises a level at least, so the search for
@@ -83,8 +84,8 @@ impl Layer {
     }
 }
 
-/// What is found for all settings as a table with its sums, and below it the first sheet with no past
-/// of each number of levels raised.
+/// What is found for all settings as a table with its sums, and below it, for each of the settings and
+/// each number of levels raised, the first sheet with no past.
 pub fn table() -> String {
     let (mut rows, mut lines, mut found) = (Vec::new(), String::new(), String::new());
     for settings in searched() {
@@ -121,4 +122,23 @@ pub fn shown(settings: &Settings, sheet: &[u8]) -> String {
     let (blocks, rest) = sheet.split_at(settings.m * settings.k);
     let index_blocks = cut(&rest[..settings.index_cells()], settings.w);
     format!("{}, {index_blocks}", cut(blocks, settings.k))
+}
+
+#[cfg(test)]
+mod tests {
+    use super::*;
+
+    #[test]
+    fn what_is_counted() {
+        let mut layer = Layer::default();
+        layer.count(false, true, vec![1]);
+        layer.count(false, false, vec![2]);
+        layer.count(true, true, vec![3]);
+        assert_eq!(layer.numbers(), [0, 2, 1, 1, 1]);
+        assert_eq!(layer.without_past, None);
+        layer.count(true, false, vec![4]);
+        layer.count(true, false, vec![5]);
+        assert_eq!(layer.numbers(), [0, 2, 1, 3, 1]);
+        assert_eq!(layer.without_past, Some(vec![4]));
+    }
 }
