@@ -4,7 +4,7 @@
 mod common;
 
 use common::{accept, bits, cells, group_tells, has_a_past, sum};
-use second::compare::past::{printed, settings, table, Counts};
+use second::compare::past::{answered, printed, settings, table, Counts};
 use second::compare::refused::{self, assignments, Refused};
 use second::past::{command, later, length, replay, run_to, Turns};
 use second::random::Random;
@@ -71,20 +71,26 @@ fn flaws_show() {
     }
 }
 
-/// Each of the three ways to count is one by itself: a sheet that is not reached though it has a run,
-/// one that is reached though it has none, a run that ends elsewhere, and one that is not printed.
+/// Each of the three ways to count is one by itself: a sheet without a run that is refused by another
+/// answer than BadSheet, one that is not reached though it has a run, one that is reached though it has
+/// none, a run that ends elsewhere, and one that is not printed.
 #[test]
 fn each_count_shows() {
     let settings = accept(0, 2, 1, 8);
     let reached = refused::reached(&settings);
-    assert!(Counts::with(&settings, &reached, printed).is_ok());
-    let sheet = cells("11 10 00 00");
+    let [sheet, hole] = ["11 10 00 00", "11 00 10 00"].map(cells);
+    assert!(Counts::with(&settings, answered, &reached, printed).is_ok());
+    let otherwise = |settings: &Settings, of: &[u8]| match of == hole {
+        true => Answer::BadLevel(0),
+        false => answered(settings, of),
+    };
+    assert!(Counts::with(&settings, otherwise, &reached, printed).is_err());
     let mut fewer = reached.clone();
     assert!(fewer.remove(&sheet));
-    assert!(Counts::with(&settings, &fewer, printed).is_err());
+    assert!(Counts::with(&settings, answered, &fewer, printed).is_err());
     let mut more = reached.clone();
-    assert!(more.insert(cells("11 00 10 00")));
-    assert!(Counts::with(&settings, &more, printed).is_err());
+    assert!(more.insert(hole.clone()));
+    assert!(Counts::with(&settings, answered, &more, printed).is_err());
     let elsewhere = |settings: &Settings, of: &[u8]| {
         let mut run = printed(settings, of)?;
         if of == sheet {
@@ -92,12 +98,12 @@ fn each_count_shows() {
         }
         Ok(run)
     };
-    assert!(Counts::with(&settings, &reached, elsewhere).is_err());
+    assert!(Counts::with(&settings, answered, &reached, elsewhere).is_err());
     let none = |settings: &Settings, of: &[u8]| match of == sheet {
         true => Err(1),
         false => printed(settings, of),
     };
-    assert!(Counts::with(&settings, &reached, none).is_err());
+    assert!(Counts::with(&settings, answered, &reached, none).is_err());
 }
 
 /// A line of a printed run.

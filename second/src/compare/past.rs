@@ -51,6 +51,11 @@ fn make(comparison: &mut Comparison, mut case: Case, run: &[Turns]) {
     comparison.require(ends, &case, || format!("the run does not end in {sheet:?}"));
 }
 
+/// What a reading of this sheet answers.
+pub fn answered(settings: &Settings, sheet: &[u8]) -> Answer {
+    read(settings, sheet, &mut [0; 64])
+}
+
 /// The run that the command prints for this sheet, or the status it ends with.
 pub fn printed(settings: &Settings, sheet: &[u8]) -> Result<Vec<Turns>, u8> {
     let said = plain(settings.k as u8, settings.top as u8, sheet);
@@ -80,18 +85,19 @@ impl Counts {
     /// Goes through every assignment of levels, or names the first sheet that is neither all three
     /// nor BadSheet and none of them.
     pub fn of(settings: &Settings) -> Result<Counts, String> {
-        Counts::with(settings, &reached(settings), printed)
+        Counts::with(settings, answered, &reached(settings), printed)
     }
 
-    /// The same for the sheets that are reached, and for what is printed of a sheet.
+    /// The same for what a reading answers, the sheets that are reached, and what is printed of one.
     pub fn with(
         settings: &Settings,
+        answered: impl Fn(&Settings, &[u8]) -> Answer,
         reached: &HashSet<Vec<u8>>,
         printed: impl Fn(&Settings, &[u8]) -> Result<Vec<Turns>, u8>,
     ) -> Result<Counts, String> {
         let mut counts = Counts::default();
         for sheet in every(settings.n, settings.top as u8) {
-            let answer = read(settings, &sheet, &mut [0; 64]);
+            let answer = answered(settings, &sheet);
             let run = printed(settings, &sheet);
             let ends = |run: &Vec<Turns>| replay(settings, run).as_ref() == Ok(&sheet);
             let found = [
@@ -153,3 +159,28 @@ const HEAD: &str = "\
 | settings | assignments of levels | accepted | reached by changes | with a printed run that ends in it | changes of all these runs |
 | --- | ---: | ---: | ---: | ---: | ---: |
 ";
+
+#[cfg(test)]
+mod tests {
+    use super::*;
+    use crate::compare::Model;
+    use crate::Flaw;
+
+    /// The group reads every assignment of levels, and makes an erase and the changes of each run.
+    #[test]
+    fn every_call_is_made() {
+        for (size, most_bits) in [(Size::Light, 2), (Size::Default, 64)] {
+            let model = Model(Flaw::None);
+            let mut comparison = Comparison::new(&model, false, false);
+            past(&mut comparison, size);
+            let all = PLAIN.map(Settings::asked).into_iter();
+            let calls = all
+                .filter(|settings| settings.k <= most_bits)
+                .map(|settings| {
+                    let counts = Counts::of(&settings).unwrap();
+                    counts.assignments + counts.with_run + counts.changes
+                });
+            assert_eq!(comparison.take_tally().cases, calls.sum::<u64>());
+        }
+    }
+}
