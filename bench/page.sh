@@ -1,5 +1,8 @@
 # shellcheck shell=bash
-# Sourced from the repository's root by the benchmarks: building them, and putting a table into docs/BENCHMARKS.md or another page.
+# Sourced from the repository's root by the benchmarks and their checks: building them, and putting a table into docs/BENCHMARKS.md or another page.
+
+# The parts of docs/BENCHMARKS.md that are written from docs/figures.
+page_parts=(summary machine yardsticks calls forms moves runs programs counts fetches sizes)
 
 # build: the archive and the program for this machine, the second program, and the benchmarks
 build() {
@@ -12,6 +15,14 @@ build() {
 build_benchmarks() {
     on_path "$0" gcc cargo && native_archive &&
         HARPGINGER_ARCHIVE=$PWD/target/native cargo build --offline --release --quiet --manifest-path bench/Cargo.toml
+}
+
+# print_parts FOLDER: each of these parts as the files in docs/figures have it, to a file of its own
+print_parts() {
+    local part
+    for part in "${page_parts[@]}"; do
+        bench/target/release/figures page "$part" docs/figures >"$1/$part.md" || return 1
+    done
 }
 
 # put PART FILE [PAGE]: the text between the part's two marks in the page becomes that of the file

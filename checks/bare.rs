@@ -29,3 +29,7 @@ extern "C" fn main() -> i32 {
 fn panic(_: &PanicInfo) -> ! {
     loop {}
 }
+
+// This machine's core is compiled to unwind and names what std has for that; some linkers ask for it though nothing here unwinds.
+#[no_mangle]
+extern "C" fn rust_eh_personality() {}

@@ -4,9 +4,9 @@ use crate::files::Line;
 use crate::job::By;
 use crate::rows::{lines, rows, Row, CALLS};
 use crate::timing::Figures;
+use crate::valgrind::run;
 use std::env;
 use std::path::Path;
-use std::process::Command;
 
 /// How many calls are counted; their bits are spread over all bits.
 const CALLS_COUNTED: usize = 4;
@@ -15,10 +15,11 @@ const CALLS_COUNTED: usize = 4;
 /// writes a file of its own.
 pub fn measure(file: &Path) -> Vec<Line> {
     let mut place = 0;
-    lines(|_| {
-        let run = |by, calls| instructions(file, [place, by, calls]);
-        let without = run(0, 0);
-        let counted = |by| (run(by, CALLS_COUNTED) - without) as f64 / CALLS_COUNTED as f64;
+    lines(|row| {
+        row.job.check().expect("library and second program agree");
+        let all = |by, calls| instructions(file, [place, by, calls]);
+        let without = all(0, 0);
+        let counted = |by| (all(by, CALLS_COUNTED) - without) as f64 / CALLS_COUNTED as f64;
         let figures = Figures::new([0, 1, 2, 3].map(counted));
         place += 1;
         figures
@@ -27,15 +28,12 @@ pub fn measure(file: &Path) -> Vec<Line> {
 
 /// The instructions of a whole run of this program: row, who and how many calls.
 fn instructions(file: &Path, words: [usize; 3]) -> u64 {
-    let output = Command::new("valgrind")
-        .arg("--tool=callgrind")
-        .arg(format!("--callgrind-out-file={}", file.display()))
-        .arg(env::current_exe().expect("this program's path"))
-        .arg("counted")
-        .args(words.map(|word| word.to_string()))
-        .output()
-        .expect("valgrind runs");
-    assert!(output.status.success(), "every counted call is done");
+    let to = format!("--callgrind-out-file={}", file.display());
+    let program = env::current_exe().expect("this program's path");
+    let [row, by, calls] = &words.map(|word| word.to_string());
+    let words: [&str; 4] = ["counted", row, by, calls];
+    let output = run(&["--tool=callgrind", &to], &program, &words);
+    let output = output.unwrap_or_else(|why| panic!("{why}"));
     let text = String::from_utf8_lossy(&output.stderr);
     let count = text
         .rsplit("Collected : ")

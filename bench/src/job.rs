@@ -103,24 +103,30 @@ impl Job {
         }
     }
 
-    /// Holds the library to the second program, for each bit, before anything is measured.
-    pub fn check(&self) {
-        for turn in 0..self.settings.k {
-            let bit = self.bit(turn, self.settings.k);
-            let (mut ours, mut theirs) = (self.sheet.clone(), self.sheet.clone());
-            let (mut our_bits, mut their_bits) = ([0; PLACES], [0; PLACES]);
-            let reply = self.ours(&mut ours, bit, &mut our_bits);
-            let answer = self.theirs(&mut theirs, bit, &mut their_bits);
-            let same = (answer.number(), answer.value()) == (reply.answer, reply.value);
-            assert!(
-                same && ours == theirs && our_bits == their_bits,
-                "{answer:?} {reply:?}"
-            );
-            assert_eq!(
-                reply.answer, self.answer,
-                "{:?} {:?}",
+    /// Holds the library to the second program, for each bit, before anything is measured; says where they differ.
+    pub fn check(&self) -> Result<(), String> {
+        let k = self.settings.k;
+        (0..k).try_for_each(|turn| self.check_bit(self.bit(turn, k)))
+    }
+
+    /// Holds them to each other for this bit, and to the answer that is expected.
+    fn check_bit(&self, bit: usize) -> Result<(), String> {
+        let (mut ours, mut theirs) = (self.sheet.clone(), self.sheet.clone());
+        let (mut our_bits, mut their_bits) = ([0; PLACES], [0; PLACES]);
+        let reply = self.ours(&mut ours, bit, &mut our_bits);
+        let answer = self.theirs(&mut theirs, bit, &mut their_bits);
+        let same = [
+            (answer.number(), answer.value()) == (reply.answer, reply.value),
+            reply.answer == self.answer,
+            ours == theirs,
+            our_bits == their_bits,
+        ];
+        match same {
+            [true, true, true, true] => Ok(()),
+            _ => Err(format!(
+                "{:?} {:?}, bit {bit}: {reply:?} and {answer:?}; answers, the one expected, cells, output are the same: {same:?}",
                 self.call, self.settings
-            );
+            )),
         }
     }
 

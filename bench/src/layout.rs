@@ -18,7 +18,9 @@ pub struct Layout {
 }
 
 /// The parts that are measured on a processor.
-pub const PARTS: [&str; 6] = ["calls", "forms", "moves", "runs", "programs", "counts"];
+pub const PARTS: [&str; 7] = [
+    "calls", "forms", "moves", "runs", "programs", "counts", "fetches",
+];
 
 /// The ratio to the second program.
 pub const TO_SECOND: &str = "/ second program";
@@ -44,6 +46,12 @@ const COUNTS: [&str; 7] = [
     TO_SECOND,
     TO_SUM,
     TO_GREATEST,
+];
+const FETCHES: [&str; 4] = [
+    "library, fetches of a cell",
+    "library, most of one cell",
+    "greatest byte, fetches of a cell",
+    "greatest byte, most of one cell",
 ];
 
 /// A table of calls, in time or in instructions.
@@ -81,6 +89,14 @@ const fn whole(
     }
 }
 
+/// A table of fetches by a call: those of the greatest byte are the same in every row, and not shown.
+const fn of_fetches(title: &'static str) -> Layout {
+    Layout {
+        shown: &[0, 1],
+        ..whole("fetches", title, &CALL, CALL.len(), &FETCHES)
+    }
+}
+
 /// The places of all figures.
 const ALL: &[usize] = &[0, 1, 2, 3];
 
@@ -89,7 +105,7 @@ const MOVE: [&str; 4] = ["settings", "run", "from stage", "to stage"];
 const AFTER: [&str; 3] = ["settings", "stage", "call"];
 
 /// All tables, in the order of the page.
-pub const LAYOUTS: [Layout; 13] = [
+pub const LAYOUTS: [Layout; 16] = [
     of_calls("calls", "Reading", &CALL, &TIMES),
     of_calls("calls", "Change of one bit", &CALL, &TIMES),
     of_calls("calls", "Erase", &["settings"], &TIMES),
@@ -144,6 +160,15 @@ pub const LAYOUTS: [Layout; 13] = [
     of_calls("counts", "Reading", &CALL, &COUNTS),
     of_calls("counts", "Change of one bit", &CALL, &COUNTS),
     of_calls("counts", "Erase", &["settings"], &COUNTS),
+    whole(
+        "fetches",
+        "One block's state",
+        &["state", "cells"],
+        1,
+        &["fetches", "most of one cell"],
+    ),
+    of_fetches("Reading"),
+    of_fetches("Change of one bit"),
 ];
 
 impl Layout {

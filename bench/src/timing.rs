@@ -62,7 +62,7 @@ const CELLS: usize = 1 << 18;
 
 /// The figures of a job, as medians of so many rounds.
 pub fn time(job: &Job, rounds: usize) -> Figures {
-    job.check();
+    job.check().expect("library and second program agree");
     let mut copies = vec![0; CELLS / job.sheet.len() * job.sheet.len()];
     let mut round = |_| Figures::new(By::ALL.map(|by| nanoseconds(job, by, &mut copies)));
     let rounds: Vec<Figures> = (0..rounds).map(&mut round).collect();

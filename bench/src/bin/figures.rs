@@ -1,7 +1,7 @@
 //! Measures one part of the benchmarks and prints its file, or prints one part of the page from the files of a folder.
 
 use bench::files::{processors, text, Line};
-use bench::{count, forms, moves, page, programs, rows, runs, sizes, summary};
+use bench::{count, fetches, forms, moves, page, programs, rows, runs, sizes, summary};
 use std::path::Path;
 use std::process::ExitCode;
 
@@ -13,6 +13,7 @@ fn main() -> ExitCode {
             let [row, by, calls] = [row, by, calls].map(|word| word.parse().expect("a number"));
             count::under_valgrind(row, by, calls);
         }
+        ["fetched", row] => fetches::under_valgrind(row.parse().expect("a number")),
         ["page", part, folder] => print(part, Path::new(folder)),
         ["measure", machine, part, ref rest @ ..] => match measured(part, rest) {
             Some(lines) => print!("{}", text(part, machine, &lines)),
@@ -34,6 +35,7 @@ fn measured(part: &str, rest: &[&str]) -> Option<Vec<Line>> {
             programs::measure(Path::new(folder), Path::new(compiled), Path::new(second))
         }
         ("counts", &[file]) => count::measure(Path::new(file)),
+        ("fetches", &[file, state]) => fetches::measure(Path::new(file), Path::new(state)),
         _ => return None,
     };
     Some(lines)
@@ -55,6 +57,6 @@ fn print(part: &str, folder: &Path) {
 }
 
 fn usage() -> ExitCode {
-    eprintln!("figures: measure MACHINE calls, forms, moves, runs, programs FOLDER COMPILED SECOND, or counts FILE; or page PART FOLDER");
+    eprintln!("figures: measure MACHINE calls, forms, moves, runs, programs FOLDER COMPILED SECOND, counts FILE, or fetches FILE STATE; or page PART FOLDER");
     ExitCode::FAILURE
 }

@@ -3,4 +3,7 @@ pub mod Meaning
 pub mod Laws
 pub mod StateLaws
 pub mod RunLaws
+pub mod LevelLaws
+pub mod PassLaws
 pub mod ShapeLaws
+pub mod StartLaws

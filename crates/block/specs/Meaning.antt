@@ -1,7 +1,7 @@
 -- What the answers on one block and on runs of cells mean, as definitions of the rules. Assumes nothing.
 use mathlib.Core.List.{List, [], _∷_}
 use mathlib.Core.Path.{_≡_}
-use Prim.Native.Nat.{ℕ, _+_, _-_, _*_, _≤_, _<_, max, min}
+use Prim.Native.Nat.{ℕ, _+_, _-_, _*_, _%_, _≤_, _<_, max, min}
 use native.Mathlib.Decide.{decLt}
 use lib.ListN.{getD, length, take, drop}
 use Rattle.rules.specs.Block.{State, empty, full, broken, active}
@@ -57,29 +57,49 @@ abbrev pub Falls : ℕ → List ℕ → Type 0
 Falls a [] = Unit {0}
 Falls a (x ∷ xs) = (x ≤ a) × Falls x xs
 
--- how many cells are higher than the one before them, counted by the difference cut at 1; before the first comes level a
+-- 1 where level x is higher than level a, else 0: the difference, cut at 1
+unfoldable pub higher : ℕ → ℕ → ℕ
+higher a x = min 1 (x - a)
+
+-- how many cells are higher than the one before them; before the first comes level a
 unfoldable pub rises : ℕ → List ℕ → ℕ
 rises a [] = 0
-rises a (x ∷ xs) = min 1 (x - a) + rises x xs
+rises a (x ∷ xs) = higher a x + rises x xs
 
--- the last such cell, where the run begins with cell i; 0 where there is none
-unfoldable pub lastRise : ℕ → ℕ → List ℕ → ℕ
-lastRise i a [] = 0
-lastRise i a (x ∷ xs) = max (pick (decLt a x) i 0) (lastRise (i + 1) x xs)
+-- the numbers of the cells that are higher than the one before them, added up; the run begins with cell i, and before it comes level a
+unfoldable pub riseCells : ℕ → ℕ → List ℕ → ℕ
+riseCells i a [] = 0
+riseCells i a (x ∷ xs) = pick (decLt a x) i 0 + riseCells (i + 1) x xs
 
--- a run in which one cell rises: the last rise is that cell, and the cells before it fall, as do the cells from it on
+-- a run in which one cell is higher than the one before it: the numbers of such cells add up to its own, and the cells before it fall, as do the cells from it on
 pub record OneRise (i a : ℕ) (xs : List ℕ) : Type 0 where
   pub cell : ℕ
   pub inside : cell < length xs
-  pub is : lastRise i a xs ≡ i + cell
+  pub is : riseCells i a xs ≡ i + cell
   pub before : Falls a (take cell xs)
   pub after : (L : ℕ) → Low L xs → Falls L (drop cell xs)
 
--- how many cells are neither at 0 nor at L
+-- how many cells are between 0 and L
 unfoldable pub middles : ℕ → List ℕ → ℕ
 middles L [] = 0
 middles L (x ∷ xs) = min 1 (min x (L - x)) + middles L xs
 
--- a block's shape; before cell 0 comes the last
+-- how many cells are above 0
+unfoldable pub nonzero : List ℕ → ℕ
+nonzero [] = 0
+nonzero (x ∷ xs) = higher 0 x + nonzero xs
+
+-- how many cells are not below L
+unfoldable pub tops : ℕ → List ℕ → ℕ
+tops L [] = 0
+tops L (x ∷ xs) = 1 - higher x L + tops L xs
+
+-- a block's shape; before cell 0 comes the last, and the two sums are what 256 leaves of them
 abbrev pub shapeOf : ℕ → List ℕ → Shape
-shapeOf L b = record { rises = rises (lastOf 0 b) b; start = lastRise 0 (lastOf 0 b) b; middles = middles L b }
+shapeOf L b = record {
+  rises = rises (lastOf 0 b) b;
+  start = riseCells 0 (lastOf 0 b) b % 256;
+  nonzero = nonzero b;
+  tops = tops L b;
+  total = sum b % 256;
+}

@@ -2,51 +2,22 @@
 use mathlib.Core.List.{List, [], _∷_, _++_}
 use mathlib.Core.Logic.{_≢_}
 use mathlib.Core.Path.{_≡_, _∙_, ap, ap₂, refl, subst, sym}
-use Prim.Native.Nat.{ℕ, zero, suc, _+_, _-_, _*_, _≤_, _<_, max, min, suc-le-suc, zero-le}
+use Prim.Native.Nat.{ℕ, zero, suc, _+_, _-_, _*_, _%_, _≤_, _<_, min, suc-le-suc, zero-le}
 use native.Mathlib.Decide.{decLt}
 use native.Mathlib.Nat.{le-of-suc-le-suc, not-suc-le-zero}
-use native.Mathlib.Numerals.{add-one}
 use native.Mathlib.Omega.{arith}
-use lib.ListN.{length, getD, take, drop, drop-of-length-le, length-append, length-drop, take-append-drop}
-use lib.Seq.{drop-at, drop-cons, length-take-le, take-at}
+use lib.ListN.{length, getD, take, drop, length-append, length-drop, take-append-drop}
+use lib.Seq.{drop-at, length-take-le, take-at}
 use Rattle.laws.specs.Block.{length-ramp, ramp-zero, state-one}
 use Rattle.laws.specs.Lists.{sum-append, sum-zero}
 use Rattle.laws.specs.Rise.{cellBefore, no-other-rises, start-rises}
-use Rattle.rules.specs.Block.{active, broken, cycle, ramp, stateOf}
+use Rattle.rules.specs.Block.{active, broken, cycle, empty, full, ramp, stateOf}
 use Rattle.rules.specs.Cells.{Low, sum}
-use Rattle.rules.specs.Search.{pick}
 use Rattle.rules.specs.SearchLaws.{pick-elim, pick-no, pick-yes}
-use Rattle.block.specs.Meaning.{Falls, OneRise, lastOf, lastRise, middles, rises, shapeOf}
+use Rattle.block.specs.Meaning.{Falls, OneRise, higher, lastOf, middles, nonzero, riseCells, rises, shapeOf, tops}
 use Rattle.block.specs.declared.Shape.{Shape}
-use Rattle.block.specs.StateLaws.{off-all, under}
-
--- ---- what a loop adds: one more cell
-
-module _ (b : List ℕ) (i : ℕ) (h : i < length b) where
-  -- to the rises
-  pub rises-more : (a : ℕ) → rises a (drop i b) ≡ min 1 (getD b i 0 - a) + rises (getD b i 0) (drop (i + 1) b)
-  unfolding rises
-  rises-more a = rw (add-one i, drop-cons b i 0 h, rises)
-
-  -- to the last rise
-  pub last-rise-more : (a : ℕ) → lastRise i a (drop i b) ≡ max (pick (decLt a (getD b i 0)) i 0) (lastRise (i + 1) (getD b i 0) (drop (i + 1) b))
-  unfolding lastRise
-  last-rise-more a = rw (drop-cons b i 0 h, lastRise, add-one i)
-
-  -- to the middles
-  pub middles-more : (L : ℕ) → middles L (drop i b) ≡ min 1 (min (getD b i 0) (L - getD b i 0)) + middles L (drop (i + 1) b)
-  unfolding middles
-  middles-more L = rw (add-one i, drop-cons b i 0 h, middles)
-
--- and past the last cell nothing is left to add
-pub shape-whole : (L n s m a i : ℕ) (b : List ℕ) → length b ≤ i → rises (lastOf 0 b) b ≡ n + rises a (drop i b) → lastRise 0 (lastOf 0 b) b ≡ max s (lastRise i a (drop i b))
-    → middles L b ≡ m + middles L (drop i b) → record { rises = n; start = s; middles = m } ≡ shapeOf L b
-unfolding rises lastRise middles
-shape-whole L n s m a i b h p q r =
-    let x : n ≡ rises (lastOf 0 b) b = omega (arith, rw (drop-of-length-le b h) at p) in
-    let y : s ≡ lastRise 0 (lastOf 0 b) b = omega (arith, rw (drop-of-length-le b h) at q) in
-    let z : m ≡ middles L b = omega (arith, rw (drop-of-length-le b h) at r) in
-    rw (x, y, z)
+use Rattle.block.specs.LevelLaws.{nonzero-are, nonzero-none, nonzero-some, tops-all, tops-few, tops-rest, tops-some}
+use Rattle.block.specs.StateLaws.{off-all, state-empty, state-full, under}
 
 -- ---- the last cell
 
@@ -57,8 +28,8 @@ last-drop d e [] i h = absurd (not-suc-le-zero h)
 last-drop d e (x ∷ b) zero h = refl
 last-drop d e (x ∷ b) (suc i) h = last-drop d x b i (le-of-suc-le-suc h)
 
--- and the one that a block's look begins with
-pub last-cell : (d : ℕ) (b : List ℕ) → 1 ≤ length b → getD b (length b - 1) 0 ≡ lastOf d b
+-- the last cell, by its number
+last-cell : (d : ℕ) (b : List ℕ) → 1 ≤ length b → getD b (length b - 1) 0 ≡ lastOf d b
 unfolding lastOf
 last-cell d [] h = absurd (not-suc-le-zero h)
 last-cell d (x ∷ []) h = refl
@@ -70,16 +41,16 @@ last-cell d (x ∷ y ∷ b) h =
 
 -- such a run falls
 none-falls : (a : ℕ) (xs : List ℕ) → rises a xs ≡ 0 → Falls a xs
-unfolding rises
+unfolding higher rises
 none-falls a [] e = tt
 none-falls a (x ∷ xs) e = (omega arith, none-falls x xs (omega arith))
 
--- and has no last rise
-none-last : (i a : ℕ) (xs : List ℕ) → rises a xs ≡ 0 → lastRise i a xs ≡ 0
-unfolding rises lastRise
-none-last i a [] e = refl
-none-last i a (x ∷ xs) e =
-    pick-elim (λ n. max n (lastRise (i + 1) x xs) ≡ 0) (decLt a x) i 0 (λ h. absurd (omega arith)) (λ h. omega (arith, none-last (i + 1) x xs (omega arith)))
+-- and no number is added up
+none-cells : (i a : ℕ) (xs : List ℕ) → rises a xs ≡ 0 → riseCells i a xs ≡ 0
+unfolding higher rises riseCells
+none-cells i a [] e = refl
+none-cells i a (x ∷ xs) e =
+    pick-elim (λ n. n + riseCells (i + 1) x xs ≡ 0) (decLt a x) i 0 (λ h. absurd (omega arith)) (λ h. omega (arith, none-cells (i + 1) x xs (omega arith)))
 
 -- two runs that fall, the second from where the first ends, are one that falls
 falls-append : (a : ℕ) (xs ys : List ℕ) → Falls a xs → Falls (lastOf a xs) ys → Falls a (xs ++ ys)
@@ -91,7 +62,7 @@ falls-append a (x ∷ xs) ys h l = (h .0, falls-append x xs ys (h .1) l)
 
 -- the cells before it fall, and so do the cells from it on
 one-rise : (i a : ℕ) (xs : List ℕ) → rises a xs ≡ 1 → OneRise i a xs
-unfolding rises lastRise
+unfolding higher rises riseCells
 one-rise i a [] e = absurd (omega arith)
 one-rise i a (x ∷ xs) e = go (decLt a x) (λ q. one-rise (i + 1) x xs q)
   where
@@ -101,7 +72,7 @@ one-rise i a (x ∷ xs) e = go (decLt a x) (λ q. one-rise (i + 1) x xs q)
         record {
           cell = 0;
           inside = suc-le-suc zero-le;
-          is = rw (pick-yes (decLt a x) i 0 h) (omega (arith, none-last (i + 1) x xs n));
+          is = rw (pick-yes (decLt a x) i 0 h) (omega (arith, none-cells (i + 1) x xs n));
           before = tt;
           after = λ L low. (low .0, none-falls x xs n);
         }
@@ -178,16 +149,16 @@ module _ (L : ℕ) (b : List ℕ) (low : Low L b) (one : rises (lastOf 0 b) b �
   rise-there : OneRise 0 (lastOf 0 b) b
   rise-there = one-rise 0 (lastOf 0 b) b one
 
-  -- it is the start that the shape names
-  start-cell : lastRise 0 (lastOf 0 b) b ≡ rise-there .cell
+  -- the numbers of the cells that rise add up to the number of that one
+  start-cell : riseCells 0 (lastOf 0 b) b ≡ rise-there .cell
   start-cell = rise-there .is ∙ omega arith
 
   -- a cell of the block
-  start-in : lastRise 0 (lastOf 0 b) b < length b
+  start-in : riseCells 0 (lastOf 0 b) b < length b
   start-in = omega (arith, start-cell, rise-there .inside)
 
   -- read from there the block falls, so it is a ramp
-  shape-step : middles L b ≤ 1 → b ≡ cycle (length b) L (lastRise 0 (lastOf 0 b) b) (sum b)
+  shape-step : middles L b ≤ 1 → b ≡ cycle (length b) L (riseCells 0 (lastOf 0 b) b) (sum b)
   shape-step m =
       let i : ℕ = rise-there .cell in
       let l : i < length b = rise-there .inside in
@@ -238,20 +209,20 @@ step-middles k L i v = go (decLt v ((k - i) * L))
 
 -- a cell that is higher than the one before it counts
 rises-some : (a : ℕ) (b : List ℕ) (c : ℕ) → c < length b → getD (a ∷ b) c 0 < getD b c 0 → 1 ≤ rises a b
-unfolding rises
+unfolding higher rises
 rises-some a [] c l h = absurd (not-suc-le-zero l)
 rises-some a (x ∷ b) zero l h = omega arith
 rises-some a (x ∷ b) (suc c) l h = omega (arith, rises-some x b c (le-of-suc-le-suc l) h)
 
 -- where no cell is higher, none counts
 rises-none : (a : ℕ) (b : List ℕ) → ((c : ℕ) → c < length b → getD b c 0 ≤ getD (a ∷ b) c 0) → rises a b ≡ 0
-unfolding rises
+unfolding higher rises
 rises-none a [] h = refl
 rises-none a (x ∷ b) h = omega (arith, h 0 (suc-le-suc zero-le), rises-none x b (λ c l. h (suc c) (suc-le-suc l)))
 
 -- where no cell but cell j is higher, no other counts
 rises-few : (a : ℕ) (b : List ℕ) (j : ℕ) → ((c : ℕ) → c < length b → c ≢ j → getD b c 0 ≤ getD (a ∷ b) c 0) → rises a b ≤ 1
-unfolding rises
+unfolding higher rises
 rises-few a [] j h = zero-le
 rises-few a (x ∷ b) zero h = omega (arith, rises-none x b (λ c l. h (suc c) (suc-le-suc l) (λ e. omega arith)))
 rises-few a (x ∷ b) (suc j) h =
@@ -273,29 +244,60 @@ step-rises L i v b g two l p q e =
     let few : rises (lastOf 0 b) b ≤ 1 = rises-few (lastOf 0 b) b i (λ c m n. omega (arith, before-cell b c (omega arith), no-other c m n)) in
     omega arith
 
--- ---- the state of a block of weight v that is neither empty nor full
+-- ---- the state of a block by its shape
 
-module _ (L : ℕ) (b : List ℕ) (v : ℕ) (w : v ≡ sum b) (two : 2 ≤ length b) (g : 0 < L) (low : Low L b) (some : v ≢ 0) (part : v ≢ length b * L) (s : Shape) (is : s ≡ shapeOf L b) where
+module _ (L : ℕ) (b : List ℕ) (two : 2 ≤ length b) (g : 0 < L) (low : Low L b) (s : Shape) (is : s ≡ shapeOf L b) where
   -- the fields of the shape that was found
   rises-is : s .rises ≡ rises (lastOf 0 b) b
   rises-is = ap (λ (r : Shape). r .rises) is
 
-  middles-is : s .middles ≡ middles L b
-  middles-is = ap (λ (r : Shape). r .middles) is
+  nonzero-is : s .nonzero ≡ nonzero b
+  nonzero-is = ap (λ (r : Shape). r .nonzero) is
 
-  -- one rise and at most one middle
-  pub state-active : s .rises ≡ 1 → s .middles ≤ 1 → active (s .start) v ≡ stateOf (length b) L b
-  state-active o m =
-      let one : rises (lastOf 0 b) b ≡ 1 = sym rises-is ∙ o in
-      let i : ℕ = lastRise 0 (lastOf 0 b) b in
-      let e : b ≡ cycle (length b) L i v = shape-step L b low one (omega (arith, middles-is)) ∙ ap (cycle (length b) L i) (sym w) in
-      ap (λ (r : Shape). active (r .start) v) is
-      ∙ sym (state-one (length b) L (omega arith) g (active i v) b (start-in L b low one, omega arith, under L b v w two g low some part, e))
+  tops-is : s .tops ≡ tops L b
+  tops-is = ap (λ (r : Shape). r .tops) is
 
-  -- no rise, or more than one
-  pub state-rises : s .rises ≢ 1 → broken ≡ stateOf (length b) L b
-  state-rises n = off-all L b v w two g low some part (λ j l e. n (rises-is ∙ step-rises L j v b g two l (omega arith) (under L b v w two g low some part) e))
+  total-is : s .total ≡ sum b % 256
+  total-is = ap (λ (r : Shape). r .total) is
 
-  -- more than one middle
-  pub state-middles : 1 < s .middles → broken ≡ stateOf (length b) L b
-  state-middles h = off-all L b v w two g low some part (λ j l e. omega (arith, middles-is, step-middles (length b) L j v, ap (middles L) e))
+  -- no more cells are at the top level than there are
+  pub shape-few : s .tops ≤ length b
+  shape-few = omega (arith, tops-is, tops-few L b)
+
+  -- no cell above 0
+  pub shape-empty : s .nonzero ≡ 0 → empty ≡ stateOf (length b) L b
+  shape-empty e = state-empty L b (sum b) refl two g low (nonzero-none b (sym nonzero-is ∙ e))
+
+  -- every cell at the top level
+  pub shape-full : s .tops ≡ length b → full ≡ stateOf (length b) L b
+  shape-full e = state-full L b (sum b) refl two g low (tops-all L b low (sym tops-is ∙ e))
+
+  module _ (some : s .nonzero ≢ 0) (part : s .tops ≢ length b) where
+    -- with a cell above 0 the sum is not 0
+    not-empty : sum b ≢ 0
+    not-empty e = some (omega (arith, nonzero-is, nonzero-some b))
+
+    -- with a cell below L the sum is not as great as can be
+    not-full : sum b ≢ length b * L
+    not-full e = part (omega (arith, tops-is, tops-few L b, tops-some L b low))
+
+    -- one rise and at most one middle: the start is the cell that rises, and the weight is the one number that fits the cells at L and what 256 leaves of the sum
+    pub shape-active : length b ≤ 256 → L < 256 → s .rises ≡ 1 → s .nonzero ≤ s .tops + 1 → (v : ℕ) → (s .tops * L ≤ v) × (v < s .tops * L + 256) × (v % 256 ≡ s .total) → active (s .start) v ≡ stateOf (length b) L b
+    shape-active short byte o m v w =
+        let one : rises (lastOf 0 b) b ≡ 1 = sym rises-is ∙ o in
+        let few : middles L b ≤ 1 = omega (arith, nonzero-is, tops-is, nonzero-are L g b) in
+        let t : s .tops * L ≡ tops L b * L = ap (λ (n : ℕ). n * L) tops-is in
+        let rest = tops-rest L g b low few in
+        let weight : v ≡ sum b = omega (arith, w, t, rest, total-is) in
+        let i : ℕ = riseCells 0 (lastOf 0 b) b in
+        let start : s .start ≡ i = ap (λ (r : Shape). r .start) is ∙ omega (arith, start-in L b low one) in
+        ap₂ active start weight
+        ∙ sym (state-one (length b) L (omega arith) g (active i (sum b)) b (start-in L b low one, omega (arith, not-empty), under L b (sum b) refl two g low not-empty not-full, shape-step L b low one few))
+
+    -- no rise, or more than one
+    pub shape-rises : s .rises ≢ 1 → broken ≡ stateOf (length b) L b
+    shape-rises n = off-all L b (sum b) refl two g low not-empty not-full (λ j l e. n (rises-is ∙ step-rises L j (sum b) b g two l (omega (arith, not-empty)) (under L b (sum b) refl two g low not-empty not-full) e))
+
+    -- more than one middle
+    pub shape-middles : s .tops + 1 < s .nonzero → broken ≡ stateOf (length b) L b
+    shape-middles h = off-all L b (sum b) refl two g low not-empty not-full (λ j l e. omega (arith, nonzero-is, tops-is, nonzero-are L g b, step-middles (length b) L j (sum b), ap (middles L) e))

@@ -2,13 +2,13 @@
 ghost use mathlib.Core.Bool.{true, false};
 ghost use mathlib.Core.List.{_++_};
 ghost use mathlib.Core.Path.{_≡_};
-ghost use Prim.Native.Nat.{_+_, _-_, _*_, _/_, _≤_, _<_, max, min};
+ghost use Prim.Native.Nat.{_+_, _-_, _*_, _/_, _%_, _≤_, _<_, min};
 ghost use native.Mathlib.Decide.{decLt};
 ghost use lib.ListN.{length, take, drop, replicate};
 ghost use Rattle.rules.specs.Search.{pick};
 ghost use Rattle.rules.specs.Cells.{sum, Low, firstAbove, same?, block, store};
 ghost use Rattle.rules.specs.Block.{cycle, stateOf};
-ghost use Rattle.block.specs.Meaning.{Leads, RunAt, RunFrom, greatestOf, leastOf, asFound, asState, shapeOf};
+ghost use Rattle.block.specs.Meaning.{Leads, RunAt, RunFrom, greatestOf, leastOf, asFound, asState, higher, shapeOf};
 
 // What a look at the levels finds: none above the top level, or the first cell that is.
 pub enum Level {
@@ -24,11 +24,14 @@ pub enum BlockState {
     Broken,
 }
 
-// A block's shape: how many cells are higher than the one before them, the last such cell, and how many are neither at 0 nor at the top level.
+// A block's shape: how many cells are higher than the one before them, and the sum of their numbers; how many are above 0, and how many at the top level; the sum of all levels.
+// Each is a byte, so that many cells are looked at together; of the two sums it is what 256 leaves.
 struct Shape {
     rises: u8,
     start: u8,
-    middles: u8,
+    nonzero: u8,
+    tops: u8,
+    total: u8,
 }
 
 // The sum of so few levels that 16 bits hold it, which takes fewer steps.
@@ -145,11 +148,11 @@ pub fn all_zero(s: &[u8]) -> bool
     greatest(s) == 0
 }
 
-// 1 for a cell that is higher than the one before it, else 0.
-fn rise(before: u8, x: u8) -> u8
-    ensures { λ r. ⌜ r ≡ min 1 (x - before) ⌝ }
+// 1 where level x is higher than level a, else 0.
+fn higher(a: u8, x: u8) -> u8
+    ensures { λ r. ⌜ (r ≤ 1) × (r ≡ higher a x) ⌝ }
 {
-    if before < x { 1 } else { 0 }
+    if a < x { 1 } else { 0 }
 }
 
 // The number of a cell that is higher than the one before it, else 0.
@@ -159,21 +162,11 @@ fn rise_at(before: u8, x: u8, cell: u8) -> u8
     if before < x { cell } else { 0 }
 }
 
-// 1 for a cell that is neither at 0 nor at the top level, else 0.
-fn middle(x: u8, top: u8) -> u8
-    ensures { λ r. ⌜ r ≡ min 1 (min x (top - x)) ⌝ }
+// 1 for a cell that is not below the top level, else 0.
+fn at_top(x: u8, top: u8) -> u8
+    ensures { λ r. ⌜ (r ≤ 1) × (r ≡ 1 - higher x top) ⌝ }
 {
-    if x == 0 {
-        return 0;
-    }
-    if x < top { 1 } else { 0 }
-}
-
-// The greater of two cells.
-fn later(a: u8, b: u8) -> u8
-    ensures { λ r. ⌜ r ≡ max a b ⌝ }
-{
-    if a < b { b } else { a }
+    if x < top { 0 } else { 1 }
 }
 
 // The lesser of two cells.
@@ -183,29 +176,47 @@ fn lesser(a: u8, b: u8) -> u8
     if a < b { a } else { b }
 }
 
-// A block's shape; before cell 0 comes the last. No cell ends the loop early, so that many cells are looked at together.
+// A block's shape, each cell fetched once and the first once more: the cell before is carried along, and at the end the first is held against the last.
+// No cell ends the loop early, so that many cells are looked at together; 255 comes before cell 0, as no level is higher.
 fn shape_of(b: &[u8], top: u8) -> Shape
-    requires { ⌜ (1 ≤ length (now b)) × (length (now b) ≤ 64) ⌝ }
+    requires { ⌜ (2 ≤ length (now b)) × (length (now b) ≤ 64) ⌝ }
     ensures { λ r. ⌜ r ≡ shapeOf top (now (b .entry)) ⌝ }
 {
     let mut rises: u8 = 0;
     let mut start: u8 = 0;
-    let mut middles: u8 = 0;
-    let mut before = b[b.len() - 1];
+    let mut nonzero: u8 = 0;
+    let mut tops: u8 = 0;
+    let mut total: u8 = 0;
+    let mut before: u8 = 255;
     let mut i: usize = 0;
     while i < b.len() {
         let x = b[i];
-        rises += rise(before, x);
-        start = later(start, rise_at(before, x, i as u8));
-        middles += middle(x, top);
+        rises += higher(before, x);
+        start = std::num::wrapping_add_u8(start, rise_at(before, x, i as u8));
+        nonzero += higher(0, x);
+        tops += at_top(x, top);
+        total = std::num::wrapping_add_u8(total, x);
         before = x;
         i += 1;
     }
+    let first = b[0];
+    rises += higher(before, first);
     Shape {
         rises,
         start,
-        middles,
+        nonzero,
+        tops,
+        total,
     }
+}
+
+// The weight of a block on a cycle: so many cells at the top level and less than 256 besides, which the byte that 256 leaves of the weight tells.
+fn weight_of(tops: u8, top: u8, total: u8) -> usize
+    requires { ⌜ tops ≤ 64 ⌝ }
+    ensures { λ r. ⌜ (tops * top ≤ r) × (r < tops * top + 256) × (r % 256 ≡ total) ⌝ }
+{
+    let whole = tops as usize * top as usize;
+    whole + std::num::wrapping_sub_u8(total, (whole % 256) as u8) as usize
 }
 
 // The state of a block whose levels are at most the top level.
@@ -214,21 +225,23 @@ pub fn state_of(b: &[u8], top: u8) -> BlockState
     requires { ⌜ Low top (now b) ⌝ }
     ensures { λ r. ⌜ asState r ≡ stateOf (length (now (b .entry))) top (now (b .entry)) ⌝ }
 {
-    let v = short_sum(b);
-    if v == 0 {
+    let shape = shape_of(b, top);
+    if shape.nonzero == 0 {
         return BlockState::Empty;
     }
-    if v == b.len() * top as usize {
+    if shape.tops as usize == b.len() {
         return BlockState::Full;
     }
-    let shape = shape_of(b, top);
     if shape.rises != 1 {
         return BlockState::Broken;
     }
-    if 1 < shape.middles {
+    if shape.tops + 1 < shape.nonzero {
         return BlockState::Broken;
     }
-    BlockState::Active(shape.start as usize, v)
+    BlockState::Active(
+        shape.start as usize,
+        weight_of(shape.tops, top, shape.total),
+    )
 }
 
 // The next step of a block on the cycle of a bit, in a part of the sheet that begins with the block: one cell is raised.

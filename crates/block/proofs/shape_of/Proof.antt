@@ -1,43 +1,41 @@
 -- `block::shape_of` meets its contract: the shape of the cells passed and that of the cells left make the whole. Assumes nothing.
 use mathlib.Core.Path.{_≡_}
-use Prim.Native.Nat.{_+_, _-_, _≤_, max}
+use Prim.Native.Nat.{_+_, _-_, _%_, _≤_, _<_}
 use native.Mathlib.Omega.{arith}
 use borrow.Author.Needs.{needs}
 use lib.ListN.{length, drop}
-use Rattle.block.specs.Meaning.{lastOf, lastRise, middles, rises}
-use Rattle.block.specs.ShapeLaws.{last-cell, last-rise-more, middles-more, rises-more, shape-whole}
+use Rattle.rules.specs.Cells.{sum}
+use Rattle.block.specs.Meaning.{higher, lastOf, nonzero, riseCells, rises, tops}
+use Rattle.block.specs.PassLaws.{cells-next, last-next, nonzero-next, rises-next, shape-whole, sum-next, tops-next}
 use Rattle.block.proofs.shape_of.Statement.{statement}
 use Rattle.block.proofs.shape_of.Tie as tie
 
 abbrev Inv-loop : tie.InvT-loop
-Inv-loop b top n₀ s₀ m₀ a₀ i₀ n s m a i =
+Inv-loop b top n₀ s₀ r₀ t₀ v₀ a₀ i₀ n s r t v a i =
     (i ≤ length b)
     × (n ≤ i)
-    × (m ≤ i)
-    × (rises (lastOf 0 b) b ≡ n + rises a (drop i b))
-    × (lastRise 0 (lastOf 0 b) b ≡ max s (lastRise i a (drop i b)))
-    × (middles top b ≡ m + middles top (drop i b))
+    × (r ≤ i)
+    × (t ≤ i)
+    × (s < 256)
+    × (v < 256)
+    × (rises 255 b ≡ n + rises a (drop i b))
+    × (riseCells 0 255 b % 256 ≡ (s + riseCells i a (drop i b)) % 256)
+    × (nonzero b ≡ r + nonzero (drop i b))
+    × (tops top b ≡ t + tops top (drop i b))
+    × (sum b % 256 ≡ (v + sum (drop i b)) % 256)
+    × (lastOf 255 b ≡ lastOf a (drop i b))
 
 abbrev μ-loop : tie.MeasureT-loop
-μ-loop b top n₀ s₀ m₀ a₀ i₀ n s m a i = length b - i
-
-sub-before : tie.Need-sub-before Inv-loop μ-loop
-sub-before c = search needs
-
-shared-slice-read-before : tie.Need-shared-slice-read-before Inv-loop μ-loop
-shared-slice-read-before c = search needs
+μ-loop b top n₀ s₀ r₀ t₀ v₀ a₀ i₀ n s r t v a i = length b - i
 
 loop-holds : tie.Need-loop-holds Inv-loop μ-loop
-loop-holds c =
-    let b = c .before .before .args .b .now in
-    let e = last-cell 0 b (omega arith) in
-    (omega arith, omega arith, omega arith, rw e (omega arith), rw e (omega arith), omega arith)
+loop-holds c = search needs
 
 shared-slice-read-x : tie.Need-shared-slice-read-x Inv-loop μ-loop
 shared-slice-read-x c = search needs
 
-rise-requires : tie.Need-rise-requires Inv-loop μ-loop
-rise-requires c κs = search needs
+higher-requires : tie.Need-higher-requires Inv-loop μ-loop
+higher-requires c κs = search needs
 
 add-rises : tie.Need-add-rises Inv-loop μ-loop
 add-rises c = search needs
@@ -48,14 +46,23 @@ cast-rise-at c = search needs
 rise-at-requires : tie.Need-rise-at-requires Inv-loop μ-loop
 rise-at-requires c κs = search needs
 
-later-requires : tie.Need-later-requires Inv-loop μ-loop
-later-requires c κs = search needs
+wrapping-add-u8-requires : tie.Need-wrapping-add-u8-requires Inv-loop μ-loop
+wrapping-add-u8-requires c κs = search needs
 
-middle-requires : tie.Need-middle-requires Inv-loop μ-loop
-middle-requires c κs = search needs
+higher-requires-2 : tie.Need-higher-requires-2 Inv-loop μ-loop
+higher-requires-2 c κs = search needs
 
-add-middles : tie.Need-add-middles Inv-loop μ-loop
-add-middles c = search needs
+add-nonzero : tie.Need-add-nonzero Inv-loop μ-loop
+add-nonzero c = search needs
+
+at-top-requires : tie.Need-at-top-requires Inv-loop μ-loop
+at-top-requires c κs = search needs
+
+add-tops : tie.Need-add-tops Inv-loop μ-loop
+add-tops c = search needs
+
+wrapping-add-u8-requires-2 : tie.Need-wrapping-add-u8-requires-2 Inv-loop μ-loop
+wrapping-add-u8-requires-2 c κs = search needs
 
 add-i : tie.Need-add-i Inv-loop μ-loop
 add-i c = search needs
@@ -65,19 +72,36 @@ loop-less c = search needs
 
 loop-again : tie.Need-loop-again Inv-loop μ-loop
 loop-again c =
-    let l = c .before .before .before .before .before .before in
-    let b = l .before .before .before .args .b .now in
+    let l = c .before .before .before .before .before .before .before .before in
+    let b = l .before .before .args .b .now in
     let i = l .loop .i in
-    let h = c .before .before .before .before .before .loop-test .taken in
-    let up = rises-more b i h (l .loop .before) in
-    let last = last-rise-more b i h (l .loop .before) in
-    let mid = middles-more b i h (l .before .before .before .args .top) in
-    (omega arith, omega arith, omega arith, omega arith, omega arith, omega arith)
+    let h = c .before .before .before .before .before .before .before .loop-test .taken in
+    let up = rises-next b i h (l .loop .before) in
+    let cells = cells-next b i h (l .loop .before) in
+    let high = nonzero-next b i h in
+    let top = tops-next b i h (l .before .before .args .top) in
+    let all = sum-next b i h in
+    let last = last-next b i h (l .loop .before) in
+    (omega arith, omega arith, omega arith, omega arith, omega arith, omega arith, omega arith, omega arith, omega arith, omega arith, omega arith, omega arith)
+
+shared-slice-read-first : tie.Need-shared-slice-read-first Inv-loop μ-loop
+shared-slice-read-first c = search needs
+
+higher-requires-3 : tie.Need-higher-requires-3 Inv-loop μ-loop
+higher-requires-3 c κs = search needs
+
+add-rises-2 : tie.Need-add-rises-2 Inv-loop μ-loop
+add-rises-2 c = search needs
 
 returns : tie.Need-returns Inv-loop μ-loop
+unfolding higher
 returns c =
-    let l = c .before .loop in
-    shape-whole (c .before .before .before .before .args .top) (l .rises) (l .start) (l .middles) (l .before) (l .i) (c .before .before .before .before .args .b .now) (c .loop-test .left) (l .inv .3) (l .inv .4) (l .inv .5)
+    let l = c .before .before .before .loop in
+    let a = c .before .before .before .before .before .args in
+    let known = c .before .shared-slice-known3 .given 0 in
+    shape-whole (a .top) (l .before) (l .i) (l .rises) _ (l .start) (l .nonzero) (l .tops) (l .total) (a .b .now)
+    (omega arith) (omega arith) (c .before .before .loop-test .left) (omega arith) (omega arith)
+    (l .inv .6) (l .inv .7) (l .inv .8) (l .inv .9) (l .inv .10) (l .inv .11) (omega arith)
 
 pub shape-of-spec : {M : Type 1} → statement M
 shape-of-spec =
@@ -85,18 +109,22 @@ shape-of-spec =
     (tie.spec
     Inv-loop
     μ-loop
-    sub-before
-    shared-slice-read-before
     loop-holds
     shared-slice-read-x
-    rise-requires
+    higher-requires
     add-rises
     cast-rise-at
     rise-at-requires
-    later-requires
-    middle-requires
-    add-middles
+    wrapping-add-u8-requires
+    higher-requires-2
+    add-nonzero
+    at-top-requires
+    add-tops
+    wrapping-add-u8-requires-2
     add-i
     loop-less
     loop-again
+    shared-slice-read-first
+    higher-requires-3
+    add-rises-2
     returns)
