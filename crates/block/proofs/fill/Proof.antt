@@ -15,15 +15,6 @@ Inv-loop b₀ level i₀ b i = (i ≤ length b) × (length b ≡ length b₀) ×
 abbrev μ-loop : tie.MeasureT-loop
 μ-loop b₀ level i₀ b i = length b - i
 
-loop-holds : tie.Need-loop-holds Inv-loop μ-loop
-loop-holds c = search needs
-
-slice-write-b : tie.Need-slice-write-b Inv-loop μ-loop
-slice-write-b c = search needs
-
-add-i : tie.Need-add-i Inv-loop μ-loop
-add-i c = search needs
-
 loop-less : tie.Need-loop-less Inv-loop μ-loop
 loop-less c = simp length-set (omega arith)
 
@@ -31,9 +22,6 @@ loop-again : tie.Need-loop-again Inv-loop μ-loop
 loop-again c =
     let l = c .before .loop in
     (simp length-set (omega arith), simp length-set (omega arith), fill-turn (l .b) (l .i) (c .before .before .args .level) (c .loop-test .taken) (l .inv .2))
-
-same-length : tie.Need-same-length Inv-loop μ-loop
-same-length c = search needs
 
 returns : tie.Need-returns Inv-loop μ-loop
 returns c =
@@ -47,10 +35,10 @@ fill-spec =
     (tie.spec
     Inv-loop
     μ-loop
-    loop-holds
-    slice-write-b
-    add-i
+    (λ c. search needs)
+    (λ c. search needs)
+    (λ c. search needs)
     loop-less
     loop-again
-    same-length
+    (λ c. search needs)
     returns)

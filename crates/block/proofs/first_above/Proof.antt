@@ -16,9 +16,6 @@ Inv-loop s top i₀ i = (i ≤ length s) × First (λ x. top < getD s x 0) i now
 abbrev μ-loop : tie.MeasureT-loop
 μ-loop s top i₀ i = length s - i
 
-greatest-requires : tie.Need-greatest-requires Inv-loop μ-loop
-greatest-requires c κs = search needs
-
 returns : tie.Need-returns Inv-loop μ-loop
 returns c =
     let a = c .before .before .before .args in
@@ -27,20 +24,11 @@ returns c =
 loop-holds : tie.Need-loop-holds Inv-loop μ-loop
 loop-holds c = (search needs, first-none)
 
-shared-slice-read-if2 : tie.Need-shared-slice-read-if2 Inv-loop μ-loop
-shared-slice-read-if2 c = search needs
-
 returns-2 : tie.Need-returns-2 Inv-loop μ-loop
 returns-2 c =
     let l = c .before .before .before in
     let a = l .before .before .before .before .args in
     above-is (a .top) (a .s .now) (first-hit _ (l .loop .inv .1) (omega arith) (omega arith))
-
-add-i : tie.Need-add-i Inv-loop μ-loop
-add-i c = search needs
-
-loop-less : tie.Need-loop-less Inv-loop μ-loop
-loop-less c = search needs
 
 loop-again : tie.Need-loop-again Inv-loop μ-loop
 loop-again c = (search needs, first-miss (c .before .before .before .loop .inv .1) (λ h. omega arith))
@@ -57,12 +45,12 @@ first-above-spec =
     (tie.spec
     Inv-loop
     μ-loop
-    greatest-requires
+    (λ c κs. search needs)
     returns
     loop-holds
-    shared-slice-read-if2
+    (λ c. search needs)
     returns-2
-    add-i
-    loop-less
+    (λ c. search needs)
+    (λ c. search needs)
     loop-again
     returns-3)

@@ -14,29 +14,8 @@ Inv-loop b level best₀ i₀ best i = (i ≤ length b) × (best ≤ length b) �
 abbrev μ-loop : tie.MeasureT-loop
 μ-loop b level best₀ i₀ best i = length b - i
 
-cast-best : tie.Need-cast-best Inv-loop μ-loop
-cast-best c = search needs
-
 loop-holds : tie.Need-loop-holds Inv-loop μ-loop
 loop-holds c = (omega arith, omega arith, λ x l. absurd (not-suc-le-zero l))
-
-shared-slice-read-low-at : tie.Need-shared-slice-read-low-at Inv-loop μ-loop
-shared-slice-read-low-at c = search needs
-
-cast-low-at : tie.Need-cast-low-at Inv-loop μ-loop
-cast-low-at c = search needs
-
-low-at-requires : tie.Need-low-at-requires Inv-loop μ-loop
-low-at-requires c κs = search needs
-
-lesser-requires : tie.Need-lesser-requires Inv-loop μ-loop
-lesser-requires c κs = search needs
-
-add-i : tie.Need-add-i Inv-loop μ-loop
-add-i c = search needs
-
-loop-less : tie.Need-loop-less Inv-loop μ-loop
-loop-less c = search needs
 
 loop-again : tie.Need-loop-again Inv-loop μ-loop
 loop-again c =
@@ -45,9 +24,6 @@ loop-again c =
     let e = c .before .low-at .ensures in
     let f = c .lesser .ensures in
     (omega arith, omega arith, λ x h m. lead-more (a .level) (l .loop .best) (l .loop .i) (a .b .now) (l .loop .inv .2) x h (omega (arith, e, f)))
-
-cast-result : tie.Need-cast-result Inv-loop μ-loop
-cast-result c = search needs
 
 returns : tie.Need-returns Inv-loop μ-loop
 returns c =
@@ -60,14 +36,14 @@ lead-spec =
     (tie.spec
     Inv-loop
     μ-loop
-    cast-best
+    (λ c. search needs)
     loop-holds
-    shared-slice-read-low-at
-    cast-low-at
-    low-at-requires
-    lesser-requires
-    add-i
-    loop-less
+    (λ c. search needs)
+    (λ c. search needs)
+    (λ c κs. search needs)
+    (λ c κs. search needs)
+    (λ c. search needs)
+    (λ c. search needs)
     loop-again
-    cast-result
+    (λ c. search needs)
     returns)

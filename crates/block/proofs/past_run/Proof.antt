@@ -18,9 +18,6 @@ Inv-loop cells len step count from level j₀ j = (from ≤ j) × (j ≤ count) 
 abbrev μ-loop : tie.MeasureT-loop
 μ-loop cells len step count from level j₀ j = count - j
 
-returns : tie.Need-returns Inv-loop μ-loop
-returns c = search needs
-
 loop-holds : tie.Need-loop-holds Inv-loop μ-loop
 loop-holds c =
     let a = c .before .before .args in
@@ -42,30 +39,6 @@ mul-a c = omega (arith, begins c)
 
 add-e : tie.Need-add-e Inv-loop μ-loop
 add-e c = omega (arith, begins c)
-
-returns-2 : tie.Need-returns-2 Inv-loop μ-loop
-returns-2 c = search needs
-
-sub-run-at : tie.Need-sub-run-at Inv-loop μ-loop
-sub-run-at c = search needs
-
-part-run-at-start : tie.Need-part-run-at-start Inv-loop μ-loop
-part-run-at-start c = search needs
-
-part-run-at-end : tie.Need-part-run-at-end Inv-loop μ-loop
-part-run-at-end c = search needs
-
-run-at-requires : tie.Need-run-at-requires Inv-loop μ-loop
-run-at-requires c κs = search needs
-
-sub-front : tie.Need-sub-front Inv-loop μ-loop
-sub-front c = search needs
-
-part-front-start : tie.Need-part-front-start Inv-loop μ-loop
-part-front-start c = search needs
-
-part-front-end : tie.Need-part-front-end Inv-loop μ-loop
-part-front-end c = search needs
 
 front-requires : tie.Need-front-requires Inv-loop μ-loop
 front-requires c κs = (omega arith, omega arith, simp (length-take, length-drop) (omega arith))
@@ -91,12 +64,6 @@ returns-3 c =
       past-more (a .len) (a .level) r (r * a .len) (a .from) (l .loop .j) (a .cells .now) (le-refl (r * a .len)) (omega (arith, f .1)) g (l .loop .inv .2),
     )
 
-add-j : tie.Need-add-j Inv-loop μ-loop
-add-j c = search needs
-
-loop-less : tie.Need-loop-less Inv-loop μ-loop
-loop-less c = search needs
-
 loop-again : tie.Need-loop-again Inv-loop μ-loop
 loop-again c =
     let l = c .before .before .before .before .before in
@@ -108,32 +75,29 @@ loop-again c =
       past-more (a .len) (a .level) (a .step) 64 (a .from) (l .loop .j) (a .cells .now) (omega (arith, rw (← l .before .before .before .pre .0 .1) at (div-mul-le-self 64 (a .len)))) (omega arith) g (l .loop .inv .2),
     )
 
-returns-4 : tie.Need-returns-4 Inv-loop μ-loop
-returns-4 c = search needs
-
 pub past-run-spec : {M : Type 1} → statement M
 past-run-spec =
     tie.close
     (tie.spec
     Inv-loop
     μ-loop
-    returns
+    (λ c. search needs)
     loop-holds
     add-loop
     mul-a
     add-e
-    returns-2
-    sub-run-at
-    part-run-at-start
-    part-run-at-end
-    run-at-requires
-    sub-front
-    part-front-start
-    part-front-end
+    (λ c. search needs)
+    (λ c. search needs)
+    (λ c. search needs)
+    (λ c. search needs)
+    (λ c κs. search needs)
+    (λ c. search needs)
+    (λ c. search needs)
+    (λ c. search needs)
     front-requires
     add-result
     returns-3
-    add-j
-    loop-less
+    (λ c. search needs)
+    (λ c. search needs)
     loop-again
-    returns-4)
+    (λ c. search needs))

@@ -5,16 +5,10 @@ use Rattle.laws.specs.Step.{part-below, part-step, step-in, turns-lt}
 use Rattle.block.proofs.raise_step.Statement.{statement}
 use Rattle.block.proofs.raise_step.Tie as tie
 
-div-cell : tie.Need-div-cell
-div-cell c = search needs
-
 add-cell : tie.Need-add-cell
 add-cell c =
     let a = c .args in
     omega (arith, turns-lt (a .top) (a .weight) (omega arith) (a .k) (omega arith))
-
-rem-cell : tie.Need-rem-cell
-rem-cell c = search needs
 
 slice-read-part : tie.Need-slice-read-part
 slice-read-part c =
@@ -31,9 +25,6 @@ slice-write-part c =
     let a = c .before .args in
     omega (arith, step-in (a .k) (a .top) (a .bit) (omega arith) (a .weight) (omega arith) (omega arith))
 
-same-length : tie.Need-same-length
-same-length c = search needs
-
 returns : tie.Need-returns
 returns c =
     let a = c .before .args in
@@ -43,11 +34,11 @@ pub raise-step-spec : {M : Type 1} → statement M
 raise-step-spec =
     tie.close
     (tie.spec
-    div-cell
+    (λ c. search needs)
     add-cell
-    rem-cell
+    (λ c. search needs)
     slice-read-part
     add-part
     slice-write-part
-    same-length
+    (λ c. search needs)
     returns)

@@ -21,17 +21,8 @@ loop-holds : tie.Need-loop-holds Inv-loop μ-loop
 unfolding greatestOf
 loop-holds c = search needs
 
-shared-slice-read-x : tie.Need-shared-slice-read-x Inv-loop μ-loop
-shared-slice-read-x c = search needs
-
 sub-x : tie.Need-sub-x Inv-loop μ-loop
 sub-x c = omega (arith, c .shared-slice-known .given (c .before .before .loop .i))
-
-add-i : tie.Need-add-i Inv-loop μ-loop
-add-i c = search needs
-
-loop-less : tie.Need-loop-less Inv-loop μ-loop
-loop-less c = search needs
 
 loop-again : tie.Need-loop-again Inv-loop μ-loop
 loop-again c =
@@ -51,9 +42,9 @@ room-above-spec =
     Inv-loop
     μ-loop
     loop-holds
-    shared-slice-read-x
+    (λ c. search needs)
     sub-x
-    add-i
-    loop-less
+    (λ c. search needs)
+    (λ c. search needs)
     loop-again
     returns)

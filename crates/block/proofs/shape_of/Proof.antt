@@ -28,48 +28,6 @@ Inv-loop b top n₀ s₀ r₀ t₀ v₀ a₀ i₀ n s r t v a i =
 abbrev μ-loop : tie.MeasureT-loop
 μ-loop b top n₀ s₀ r₀ t₀ v₀ a₀ i₀ n s r t v a i = length b - i
 
-loop-holds : tie.Need-loop-holds Inv-loop μ-loop
-loop-holds c = search needs
-
-shared-slice-read-x : tie.Need-shared-slice-read-x Inv-loop μ-loop
-shared-slice-read-x c = search needs
-
-higher-requires : tie.Need-higher-requires Inv-loop μ-loop
-higher-requires c κs = search needs
-
-add-rises : tie.Need-add-rises Inv-loop μ-loop
-add-rises c = search needs
-
-cast-rise-at : tie.Need-cast-rise-at Inv-loop μ-loop
-cast-rise-at c = search needs
-
-rise-at-requires : tie.Need-rise-at-requires Inv-loop μ-loop
-rise-at-requires c κs = search needs
-
-wrapping-add-u8-requires : tie.Need-wrapping-add-u8-requires Inv-loop μ-loop
-wrapping-add-u8-requires c κs = search needs
-
-higher-requires-2 : tie.Need-higher-requires-2 Inv-loop μ-loop
-higher-requires-2 c κs = search needs
-
-add-nonzero : tie.Need-add-nonzero Inv-loop μ-loop
-add-nonzero c = search needs
-
-at-top-requires : tie.Need-at-top-requires Inv-loop μ-loop
-at-top-requires c κs = search needs
-
-add-tops : tie.Need-add-tops Inv-loop μ-loop
-add-tops c = search needs
-
-wrapping-add-u8-requires-2 : tie.Need-wrapping-add-u8-requires-2 Inv-loop μ-loop
-wrapping-add-u8-requires-2 c κs = search needs
-
-add-i : tie.Need-add-i Inv-loop μ-loop
-add-i c = search needs
-
-loop-less : tie.Need-loop-less Inv-loop μ-loop
-loop-less c = search needs
-
 loop-again : tie.Need-loop-again Inv-loop μ-loop
 loop-again c =
     let l = c .before .before .before .before .before .before .before .before in
@@ -83,15 +41,6 @@ loop-again c =
     let all = sum-next b i h in
     let last = last-next b i h (l .loop .before) in
     (omega arith, omega arith, omega arith, omega arith, omega arith, omega arith, omega arith, omega arith, omega arith, omega arith, omega arith, omega arith)
-
-shared-slice-read-first : tie.Need-shared-slice-read-first Inv-loop μ-loop
-shared-slice-read-first c = search needs
-
-higher-requires-3 : tie.Need-higher-requires-3 Inv-loop μ-loop
-higher-requires-3 c κs = search needs
-
-add-rises-2 : tie.Need-add-rises-2 Inv-loop μ-loop
-add-rises-2 c = search needs
 
 returns : tie.Need-returns Inv-loop μ-loop
 unfolding higher
@@ -109,22 +58,22 @@ shape-of-spec =
     (tie.spec
     Inv-loop
     μ-loop
-    loop-holds
-    shared-slice-read-x
-    higher-requires
-    add-rises
-    cast-rise-at
-    rise-at-requires
-    wrapping-add-u8-requires
-    higher-requires-2
-    add-nonzero
-    at-top-requires
-    add-tops
-    wrapping-add-u8-requires-2
-    add-i
-    loop-less
+    (λ c. search needs)
+    (λ c. search needs)
+    (λ c κs. search needs)
+    (λ c. search needs)
+    (λ c. search needs)
+    (λ c κs. search needs)
+    (λ c κs. search needs)
+    (λ c κs. search needs)
+    (λ c. search needs)
+    (λ c κs. search needs)
+    (λ c. search needs)
+    (λ c κs. search needs)
+    (λ c. search needs)
+    (λ c. search needs)
     loop-again
-    shared-slice-read-first
-    higher-requires-3
-    add-rises-2
+    (λ c. search needs)
+    (λ c κs. search needs)
+    (λ c. search needs)
     returns)

@@ -5,17 +5,11 @@ use Rattle.block.specs.ShapeLaws.{shape-active, shape-empty, shape-few, 
 use Rattle.block.proofs.state_of.Statement.{statement}
 use Rattle.block.proofs.state_of.Tie as tie
 
-shape-of-requires : tie.Need-shape-of-requires
-shape-of-requires c κs = search needs
-
 returns : tie.Need-returns
 returns c =
     let f = c .before .before in
     let s = f .before .before in
     shape-empty (s .args .top) (s .args .b .now) (omega arith) (omega arith) (s .pre .1) _ (f .shape-of .ensures) (omega arith)
-
-cast-if2 : tie.Need-cast-if2
-cast-if2 c = search needs
 
 returns-2 : tie.Need-returns-2
 returns-2 c =
@@ -41,9 +35,6 @@ returns-4 c =
     let s = f .before .before in
     shape-middles (s .args .top) (s .args .b .now) (omega arith) (omega arith) (s .pre .1) _ (f .shape-of .ensures) (λ e. omega arith) (λ e. omega arith) (omega arith)
 
-cast-t5 : tie.Need-cast-t5
-cast-t5 c = search needs
-
 weight-of-requires : tie.Need-weight-of-requires
 weight-of-requires c κs =
     let f = c .before .before .before .before .before .before .before .before .before .before in
@@ -60,13 +51,13 @@ pub state-of-spec : {M : Type 1} → statement M
 state-of-spec =
     tie.close
     (tie.spec
-    shape-of-requires
+    (λ c κs. search needs)
     returns
-    cast-if2
+    (λ c. search needs)
     returns-2
     returns-3
     add-if4
     returns-4
-    cast-t5
+    (λ c. search needs)
     weight-of-requires
     returns-5)

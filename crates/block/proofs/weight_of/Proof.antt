@@ -12,15 +12,6 @@ mul-whole c =
     let g : c .args .top ≤ 255 = omega arith in
     omega (arith, mul-le-mul h g)
 
-cast-wrapping-sub-u8 : tie.Need-cast-wrapping-sub-u8
-cast-wrapping-sub-u8 c = search needs
-
-wrapping-sub-u8-requires : tie.Need-wrapping-sub-u8-requires
-wrapping-sub-u8-requires c κs = search needs
-
-cast-result : tie.Need-cast-result
-cast-result c = search needs
-
 add-result : tie.Need-add-result
 add-result c =
     let a = c .before .args in
@@ -28,16 +19,13 @@ add-result c =
     let g : a .top ≤ 255 = omega arith in
     omega (arith, mul-le-mul h g)
 
-returns : tie.Need-returns
-returns c = search needs
-
 pub weight-of-spec : {M : Type 1} → statement M
 weight-of-spec =
     tie.close
     (tie.spec
     mul-whole
-    cast-wrapping-sub-u8
-    wrapping-sub-u8-requires
-    cast-result
+    (λ c. search needs)
+    (λ c κs. search needs)
+    (λ c. search needs)
     add-result
-    returns)
+    (λ c. search needs))

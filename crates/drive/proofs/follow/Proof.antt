@@ -39,44 +39,17 @@ lengths c = (omega arith, omega arith, omega arith)
 loop-holds : tie.Need-loop-holds Inv-loop μ-loop
 loop-holds c = (none-read _, omega arith, search needs, search needs, search needs)
 
-read-more-requires : tie.Need-read-more-requires Inv-loop μ-loop
-read-more-requires c κs = search needs
-
-slice-aggregate-write-all : tie.Need-slice-aggregate-write-all Inv-loop μ-loop
-slice-aggregate-write-all c = search needs
-
-write-all-requires : tie.Need-write-all-requires Inv-loop μ-loop
-write-all-requires c κs = search needs
-
-same-length : tie.Need-same-length Inv-loop μ-loop
-same-length c = search needs
-
-same-length-2 : tie.Need-same-length-2 Inv-loop μ-loop
-same-length-2 c = search needs
-
-same-length-3 : tie.Need-same-length-3 Inv-loop μ-loop
-same-length-3 c = search needs
-
 returns : tie.Need-returns Inv-loop μ-loop
 returns c = input-stopped (c .before .before .before .before .before .before .before .before .loop .inv .0)
 
 take-reading-requires : tie.Need-take-reading-requires Inv-loop μ-loop
 take-reading-requires c κs = (c .before .before .before .before .before .before .read-more .ensures .0, omega (arith, c .before .before .before .before .before .before .read-more .ensures .0))
 
-slice-reshare-prefix-write-lines : tie.Need-slice-reshare-prefix-write-lines Inv-loop μ-loop
-slice-reshare-prefix-write-lines c = search needs
-
 slice-aggregate-write-lines : tie.Need-slice-aggregate-write-lines Inv-loop μ-loop
 slice-aggregate-write-lines c = sym (length-take-le _ _ (c .before .before .before .before .before .before .before .before .take-reading .ensures .2))
 
-write-lines-requires : tie.Need-write-lines-requires Inv-loop μ-loop
-write-lines-requires c κs = search needs
-
 same-length-4 : tie.Need-same-length-4 Inv-loop μ-loop
 same-length-4 c = omega (arith, lengths (c .before .before .before), c .before .before .before .before .before .before .before .before .before .before .before .before .before .before .before .before .before .before .before .before .before .before .before .before .pre .0)
-
-same-length-5 : tie.Need-same-length-5 Inv-loop μ-loop
-same-length-5 c = search needs
 
 same-length-6 : tie.Need-same-length-6 Inv-loop μ-loop
 same-length-6 c = omega (arith, lengths (c .before .before .before), c .before .before .before .before .before .before .before .before .before .before .before .before .before .before .before .before .before .before .before .before .before .before .before .before .pre .1)
@@ -87,34 +60,16 @@ returns-2 c = told (c .before .before .before)
 same-length-7 : tie.Need-same-length-7 Inv-loop μ-loop
 same-length-7 c = omega (arith, lengths (c .before .before .before .before .before), c .before .before .before .before .before .before .before .before .before .before .before .before .before .before .before .before .before .before .before .before .before .before .before .before .before .before .pre .0)
 
-same-length-8 : tie.Need-same-length-8 Inv-loop μ-loop
-same-length-8 c = search needs
-
 same-length-9 : tie.Need-same-length-9 Inv-loop μ-loop
 same-length-9 c = omega (arith, lengths (c .before .before .before .before .before), c .before .before .before .before .before .before .before .before .before .before .before .before .before .before .before .before .before .before .before .before .before .before .before .before .before .before .pre .1)
 
 returns-3 : tie.Need-returns-3 Inv-loop μ-loop
 returns-3 c = told (c .before .before .before .before .before)
 
-sub-turns : tie.Need-sub-turns Inv-loop μ-loop
-sub-turns c = search needs
-
-loop-less : tie.Need-loop-less Inv-loop μ-loop
-loop-less c = search needs
-
 loop-again : tie.Need-loop-again Inv-loop μ-loop
 loop-again c =
     let h = c .before .before .before .before .before in
     (turned h (omega arith), h .before .before .before .before .before .before .before .take-reading .ensures .1, lengths h .0, lengths h .1, lengths h .2)
-
-same-length-10 : tie.Need-same-length-10 Inv-loop μ-loop
-same-length-10 c = search needs
-
-same-length-11 : tie.Need-same-length-11 Inv-loop μ-loop
-same-length-11 c = search needs
-
-same-length-12 : tie.Need-same-length-12 Inv-loop μ-loop
-same-length-12 c = search needs
 
 returns-4 : tie.Need-returns-4 Inv-loop μ-loop
 returns-4 c = input-stopped (c .before .loop .inv .0)
@@ -126,29 +81,29 @@ follow-spec =
     Inv-loop
     μ-loop
     loop-holds
-    read-more-requires
-    slice-aggregate-write-all
-    write-all-requires
-    same-length
-    same-length-2
-    same-length-3
+    (λ c κs. search needs)
+    (λ c. search needs)
+    (λ c κs. search needs)
+    (λ c. search needs)
+    (λ c. search needs)
+    (λ c. search needs)
     returns
     take-reading-requires
-    slice-reshare-prefix-write-lines
+    (λ c. search needs)
     slice-aggregate-write-lines
-    write-lines-requires
+    (λ c κs. search needs)
     same-length-4
-    same-length-5
+    (λ c. search needs)
     same-length-6
     returns-2
     same-length-7
-    same-length-8
+    (λ c. search needs)
     same-length-9
     returns-3
-    sub-turns
-    loop-less
+    (λ c. search needs)
+    (λ c. search needs)
     loop-again
-    same-length-10
-    same-length-11
-    same-length-12
+    (λ c. search needs)
+    (λ c. search needs)
+    (λ c. search needs)
     returns-4)

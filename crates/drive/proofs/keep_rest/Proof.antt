@@ -14,32 +14,11 @@ Inv-loop bytes₀ from count i₀ bytes i = (i ≤ count) × (length bytes ≡ l
 abbrev μ-loop : tie.MeasureT-loop
 μ-loop bytes₀ from count i₀ bytes i = count - i
 
-loop-holds : tie.Need-loop-holds Inv-loop μ-loop
-loop-holds c = search needs
-
-add-bytes : tie.Need-add-bytes Inv-loop μ-loop
-add-bytes c = search needs
-
-slice-read-bytes : tie.Need-slice-read-bytes Inv-loop μ-loop
-slice-read-bytes c = search needs
-
-slice-write-bytes : tie.Need-slice-write-bytes Inv-loop μ-loop
-slice-write-bytes c = search needs
-
-add-i : tie.Need-add-i Inv-loop μ-loop
-add-i c = search needs
-
-loop-less : tie.Need-loop-less Inv-loop μ-loop
-loop-less c = search needs
-
 loop-again : tie.Need-loop-again Inv-loop μ-loop
 loop-again c =
     let t = c .before .before .loop in
     let a = c .before .before .before .args in
     (omega arith, simp length-set (omega arith), keep-step (a .bytes .now) (t .bytes) (a .from) (t .i) (omega arith) (omega arith) (t .inv .2) (t .inv .3), keep-after (a .bytes .now) (t .bytes) (t .i) _ (t .inv .3))
-
-same-length : tie.Need-same-length Inv-loop μ-loop
-same-length c = search needs
 
 returns : tie.Need-returns Inv-loop μ-loop
 returns c =
@@ -54,12 +33,12 @@ keep-rest-spec =
     (tie.spec
     Inv-loop
     μ-loop
-    loop-holds
-    add-bytes
-    slice-read-bytes
-    slice-write-bytes
-    add-i
-    loop-less
+    (λ c. search needs)
+    (λ c. search needs)
+    (λ c. search needs)
+    (λ c. search needs)
+    (λ c. search needs)
+    (λ c. search needs)
     loop-again
-    same-length
+    (λ c. search needs)
     returns)

@@ -18,36 +18,9 @@ Inv-loop bytes cells₀ out₀ settings₀ end₀ a₀ left₀ cells out setting
 abbrev μ-loop : tie.MeasureT-loop
 μ-loop bytes cells₀ out₀ settings₀ end₀ a₀ left₀ cells out settings end a left = left
 
-add-left : tie.Need-add-left Inv-loop μ-loop
-add-left c = search needs
-
 loop-holds : tie.Need-loop-holds Inv-loop μ-loop
 unfolding recordsOf
 loop-holds c = (omega arith, omega arith, omega arith, refl, refl, refl)
-
-record-end-requires : tie.Need-record-end-requires Inv-loop μ-loop
-record-end-requires c κs = search needs
-
-sub-obey : tie.Need-sub-obey Inv-loop μ-loop
-sub-obey c = search needs
-
-part-obey-start : tie.Need-part-obey-start Inv-loop μ-loop
-part-obey-start c = search needs
-
-part-obey-end : tie.Need-part-obey-end Inv-loop μ-loop
-part-obey-end c = search needs
-
-obey-requires : tie.Need-obey-requires Inv-loop μ-loop
-obey-requires c κs = search needs
-
-put-line-requires : tie.Need-put-line-requires Inv-loop μ-loop
-put-line-requires c κs = search needs
-
-sub-left : tie.Need-sub-left Inv-loop μ-loop
-sub-left c = search needs
-
-loop-less : tie.Need-loop-less Inv-loop μ-loop
-loop-less c = search needs
 
 loop-again : tie.Need-loop-again Inv-loop μ-loop
 loop-again c =
@@ -57,12 +30,6 @@ loop-again c =
     let f = r .record-end .ensures .2 in
     let m : r .record-end .result - t .a ≡ min 8 (length (a .bytes .now) - t .a) = omega (arith, front-least 8 (drop (t .a) (a .bytes .now)) (r .record-end .result - t .a) f, length-drop (t .a) (a .bytes .now)) in
     (omega arith, r .record-end .ensures .1, omega arith, search needs, search needs, piece-step (a .bytes .now) (t .a) (r .record-end .result) (t .left) (t .settings) _ (t .cells) _ (t .inv .5) (omega arith) (r .record-end .ensures .0) f (c .before .before .before .before .before .before .before .before .obey .ensures .leaves))
-
-same-length : tie.Need-same-length Inv-loop μ-loop
-same-length c = search needs
-
-same-length-2 : tie.Need-same-length-2 Inv-loop μ-loop
-same-length-2 c = search needs
 
 returns : tie.Need-returns Inv-loop μ-loop
 returns c =
@@ -77,17 +44,17 @@ obey-piece-spec =
     (tie.spec
     Inv-loop
     μ-loop
-    add-left
+    (λ c. search needs)
     loop-holds
-    record-end-requires
-    sub-obey
-    part-obey-start
-    part-obey-end
-    obey-requires
-    put-line-requires
-    sub-left
-    loop-less
+    (λ c κs. search needs)
+    (λ c. search needs)
+    (λ c. search needs)
+    (λ c. search needs)
+    (λ c κs. search needs)
+    (λ c κs. search needs)
+    (λ c. search needs)
+    (λ c. search needs)
     loop-again
-    same-length
-    same-length-2
+    (λ c. search needs)
+    (λ c. search needs)
     returns)

@@ -23,24 +23,6 @@ inside c = omega (arith, few (c .before), c .bits2 .given)
 counted : (c : tie.After-bits2) → c .before .bits-held .result ≡ length (take (c .before .bits-held .result) (c .before .bits-held .last .1 .1 .0))
 counted c = sym (length-take-le _ _ (inside c))
 
-slice-aggregate-bits-held : tie.Need-slice-aggregate-bits-held
-slice-aggregate-bits-held c = search needs
-
-bits-held-requires : tie.Need-bits-held-requires
-bits-held-requires c κs = search needs
-
-slice-aggregate-put : tie.Need-slice-aggregate-put
-slice-aggregate-put c = search needs
-
-put-requires : tie.Need-put-requires
-put-requires c κs = search needs
-
-same-length : tie.Need-same-length
-same-length c = search needs
-
-returns : tie.Need-returns
-returns c = search needs
-
 array-share-prefix-bits : tie.Need-array-share-prefix-bits
 array-share-prefix-bits c = inside (c .before .before)
 
@@ -52,9 +34,6 @@ put-bits-requires c κs =
     let b = c .before .before .before in
     omega (arith, few (b .before), counted b)
 
-same-length-2 : tie.Need-same-length-2
-same-length-2 c = search needs
-
 returns-2 : tie.Need-returns-2
 returns-2 c =
     let b = c .before .before .before .before .before .before in
@@ -64,14 +43,14 @@ pub put-held-spec : {M : Type 1} → statement M
 put-held-spec =
     tie.close
     (tie.spec
-    slice-aggregate-bits-held
-    bits-held-requires
-    slice-aggregate-put
-    put-requires
-    same-length
-    returns
+    (λ c. search needs)
+    (λ c κs. search needs)
+    (λ c. search needs)
+    (λ c κs. search needs)
+    (λ c. search needs)
+    (λ c. search needs)
     array-share-prefix-bits
     slice-aggregate-put-bits
     put-bits-requires
-    same-length-2
+    (λ c. search needs)
     returns-2)

@@ -14,44 +14,17 @@ use Rattle.drive.proofs.take_reading.Tie as tie
 waiting-sized : (c : tie.Start) → c .args .waiting ≡ length (take (c .args .waiting) (c .args .bytes .now))
 waiting-sized c = sym (length-take-le _ _ (omega arith))
 
-slice-reshare-prefix-obey-piece : tie.Need-slice-reshare-prefix-obey-piece
-slice-reshare-prefix-obey-piece c = search needs
-
 slice-aggregate-obey-piece : tie.Need-slice-aggregate-obey-piece
 slice-aggregate-obey-piece c = waiting-sized (c .before .before .before .before .before)
 
 obey-piece-requires : tie.Need-obey-piece-requires
 obey-piece-requires c κs = omega (arith, waiting-sized (c .before .before .before .before .before .before .before))
 
-same-length : tie.Need-same-length
-same-length c = search needs
-
-same-length-2 : tie.Need-same-length-2
-same-length-2 c = search needs
-
-same-length-3 : tie.Need-same-length-3
-same-length-3 c = search needs
-
 returns : tie.Need-returns
 returns c =
     let a = c .before .before .before .before .before .before .before .before .before .before .before .before .before .args in
     let o = c .before .before .before .before .before .obey-piece .ensures in
     (reading-ended (sheetHeld (a .start) (a .cells .now)) (a .bytes .now) (a .waiting) (a .count) (omega arith) (o .0), omega arith, o .1)
-
-add-take-turn : tie.Need-add-take-turn
-add-take-turn c = search needs
-
-take-turn-requires : tie.Need-take-turn-requires
-take-turn-requires c κs = search needs
-
-same-length-4 : tie.Need-same-length-4
-same-length-4 c = search needs
-
-same-length-5 : tie.Need-same-length-5
-same-length-5 c = search needs
-
-same-length-6 : tie.Need-same-length-6
-same-length-6 c = search needs
 
 returns-2 : tie.Need-returns-2
 returns-2 c =
@@ -63,16 +36,16 @@ pub take-reading-spec : {M : Type 1} → statement M
 take-reading-spec =
     tie.close
     (tie.spec
-    slice-reshare-prefix-obey-piece
+    (λ c. search needs)
     slice-aggregate-obey-piece
     obey-piece-requires
-    same-length
-    same-length-2
-    same-length-3
+    (λ c. search needs)
+    (λ c. search needs)
+    (λ c. search needs)
     returns
-    add-take-turn
-    take-turn-requires
-    same-length-4
-    same-length-5
-    same-length-6
+    (λ c. search needs)
+    (λ c κs. search needs)
+    (λ c. search needs)
+    (λ c. search needs)
+    (λ c. search needs)
     returns-2)

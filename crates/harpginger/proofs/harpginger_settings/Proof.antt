@@ -16,21 +16,6 @@ returns c =
     let e = pick-no (ℕ-discrete _ 7) _ _ (c .if1 .taken) in
     record { number = sym (ap numberOf e); value = sym (ap valueOf e); leaves = sym (pick-no (ℕ-discrete _ 7) _ _ (c .if1 .taken)) }
 
-accept-requires : tie.Need-accept-requires
-accept-requires c κs = search needs
-
-slice-write-numbers : tie.Need-slice-write-numbers
-slice-write-numbers c = search needs
-
-slice-write-numbers-2 : tie.Need-slice-write-numbers-2
-slice-write-numbers-2 c = search needs
-
-slice-write-numbers-3 : tie.Need-slice-write-numbers-3
-slice-write-numbers-3 c = search needs
-
-slice-write-numbers-4 : tie.Need-slice-write-numbers-4
-slice-write-numbers-4 c = search needs
-
 slice-write-numbers-5 : tie.Need-slice-write-numbers-5
 slice-write-numbers-5 c = simp length-set (omega (arith, c .before .before .if1 .left))
 
@@ -39,15 +24,6 @@ slice-write-numbers-6 c = simp length-set (omega (arith, c .before .before .if1 
 
 slice-write-numbers-7 : tie.Need-slice-write-numbers-7
 slice-write-numbers-7 c = simp length-set (omega (arith, c .before .before .if1 .left))
-
-value-requires : tie.Need-value-requires
-value-requires c κs = search needs
-
-number-requires : tie.Need-number-requires
-number-requires c κs = search needs
-
-same-length : tie.Need-same-length
-same-length c = search needs
 
 returns-2 : tie.Need-returns-2
 returns-2 c =
@@ -67,15 +43,15 @@ harpginger-settings-spec =
     tie.close
     (tie.spec
     returns
-    accept-requires
-    slice-write-numbers
-    slice-write-numbers-2
-    slice-write-numbers-3
-    slice-write-numbers-4
+    (λ c κs. search needs)
+    (λ c. search needs)
+    (λ c. search needs)
+    (λ c. search needs)
+    (λ c. search needs)
     slice-write-numbers-5
     slice-write-numbers-6
     slice-write-numbers-7
-    value-requires
-    number-requires
-    same-length
+    (λ c κs. search needs)
+    (λ c κs. search needs)
+    (λ c. search needs)
     returns-2)

@@ -8,33 +8,6 @@ use borrow.Author.Needs.{needs}
 use Rattle.moving.proofs.fill_rest.Statement.{statement}
 use Rattle.moving.proofs.fill_rest.Tie as tie
 
-sub-fill : tie.Need-sub-fill
-sub-fill c = search needs
-
-part-fill-start : tie.Need-part-fill-start
-part-fill-start c = search needs
-
-part-fill-end : tie.Need-part-fill-end
-part-fill-end c = search needs
-
-fill-requires : tie.Need-fill-requires
-fill-requires c κs = search needs
-
-sub-sum-of : tie.Need-sub-sum-of
-sub-sum-of c = search needs
-
-part-sum-of-start : tie.Need-part-sum-of-start
-part-sum-of-start c = search needs
-
-part-sum-of-end : tie.Need-part-sum-of-end
-part-sum-of-end c = search needs
-
-sum-of-requires : tie.Need-sum-of-requires
-sum-of-requires c κs = search needs
-
-same-length : tie.Need-same-length
-same-length c = search needs
-
 returns : tie.Need-returns
 returns c =
     let a = c .before .before .before .before .before .before .before .before .args in
@@ -50,13 +23,13 @@ pub fill-rest-spec : {M : Type 1} → statement M
 fill-rest-spec =
     tie.close
     (tie.spec
-    sub-fill
-    part-fill-start
-    part-fill-end
-    fill-requires
-    sub-sum-of
-    part-sum-of-start
-    part-sum-of-end
-    sum-of-requires
-    same-length
+    (λ c. search needs)
+    (λ c. search needs)
+    (λ c. search needs)
+    (λ c κs. search needs)
+    (λ c. search needs)
+    (λ c. search needs)
+    (λ c. search needs)
+    (λ c κs. search needs)
+    (λ c. search needs)
     returns)

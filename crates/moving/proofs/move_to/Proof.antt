@@ -20,9 +20,6 @@ Inv-loop sheet₀ at len count w k top values step full raised₀ live₀ j₀ s
 abbrev μ-loop : tie.MeasureT-loop
 μ-loop sheet₀ at len count w k top values step full raised₀ live₀ j₀ sheet raised live j = count - j
 
-run-blocks-requires : tie.Need-run-blocks-requires Inv-loop μ-loop
-run-blocks-requires c κs = search needs
-
 mul-full : tie.Need-mul-full Inv-loop μ-loop
 mul-full c = omega (arith, full-small (c .before .before .args .len) (c .before .before .args .top) (c .before .before .pre .small) (omega arith))
 
@@ -45,15 +42,6 @@ mul-a c = omega (arith, inside c, long c)
 add-e : tie.Need-add-e Inv-loop μ-loop
 add-e c = omega (arith, inside c, long c)
 
-add-j : tie.Need-add-j Inv-loop μ-loop
-add-j c = search needs
-
-sub-sum-of : tie.Need-sub-sum-of Inv-loop μ-loop
-sub-sum-of c = search needs
-
-part-sum-of-start : tie.Need-part-sum-of-start Inv-loop μ-loop
-part-sum-of-start c = search needs
-
 part-sum-of-end : tie.Need-part-sum-of-end Inv-loop μ-loop
 part-sum-of-end c = omega (arith, inside (c .before))
 
@@ -69,9 +57,6 @@ past-run-requires c κs =
     let g = o .before .before .before .before .pre in
     let e = same-long g (o .before .loop .inv) in
     ((g .long, omega arith), (omega (arith, g .ordered, g .inside), omega (arith, g .short), omega arith))
-
-loop-less : tie.Need-loop-less Inv-loop μ-loop
-loop-less c = search needs
 
 loop-again : tie.Need-loop-again Inv-loop μ-loop
 loop-again c =
@@ -121,17 +106,11 @@ add-live c =
     let g = c .before .before .before .before .before .before .before .before .before .before .before .before .pre in
     omega (arith, met-few g (loop-again-2 c), g .few)
 
-loop-less-2 : tie.Need-loop-less-2 Inv-loop μ-loop
-loop-less-2 c = search needs
-
 mul-rest : tie.Need-mul-rest Inv-loop μ-loop
 mul-rest c = omega (arith, index-room (c .before .before .before .before .pre) (c .before .loop .inv))
 
 add-rest : tie.Need-add-rest Inv-loop μ-loop
 add-rest c = omega (arith, index-room (c .before .before .before .before .pre) (c .before .loop .inv))
-
-sub-end : tie.Need-sub-end Inv-loop μ-loop
-sub-end c = search needs
 
 mul-end : tie.Need-mul-end Inv-loop μ-loop
 mul-end c = omega arith
@@ -178,29 +157,29 @@ move-to-spec =
     (tie.spec
     Inv-loop
     μ-loop
-    run-blocks-requires
+    (λ c κs. search needs)
     mul-full
     loop-holds
     mul-a
     add-e
-    add-j
-    sub-sum-of
-    part-sum-of-start
+    (λ c. search needs)
+    (λ c. search needs)
+    (λ c. search needs)
     part-sum-of-end
     sum-of-requires
     past-run-requires
-    loop-less
+    (λ c. search needs)
     loop-again
     mul-record-live
     add-record-live
     record-live-requires
     add-raised
     add-live
-    loop-less-2
+    (λ c. search needs)
     loop-again-2
     mul-rest
     add-rest
-    sub-end
+    (λ c. search needs)
     mul-end
     mul-end-2
     add-end

@@ -15,21 +15,6 @@ returns c =
       free-sum (a .a) (a .len) (a .b) (a .w) (a .top) (a .live) (a .k) (a .t9) (a .sheet .now) (o .pre .0 .2) (c .if1 .taken),
     )
 
-add-record-value : tie.Need-add-record-value
-add-record-value c = search needs
-
-mul-record-value : tie.Need-mul-record-value
-mul-record-value c = search needs
-
-array-read-record-value : tie.Need-array-read-record-value
-array-read-record-value c = search needs
-
-record-value-requires : tie.Need-record-value-requires
-record-value-requires c κs = search needs
-
-same-length : tie.Need-same-length
-same-length c = search needs
-
 returns-2 : tie.Need-returns-2
 returns-2 c =
     let o = c .before .before .before .before .before .before in
@@ -46,9 +31,9 @@ record-live-spec =
     tie.close
     (tie.spec
     returns
-    add-record-value
-    mul-record-value
-    array-read-record-value
-    record-value-requires
-    same-length
+    (λ c. search needs)
+    (λ c. search needs)
+    (λ c. search needs)
+    (λ c κs. search needs)
+    (λ c. search needs)
     returns-2)

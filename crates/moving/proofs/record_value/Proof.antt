@@ -10,30 +10,6 @@ use Rattle.moving.specs.RecordLaws.{after-small, block-asks, full-small,
 use Rattle.moving.proofs.record_value.Statement.{statement}
 use Rattle.moving.proofs.record_value.Tie as tie
 
-add-e : tie.Need-add-e
-add-e c = search needs
-
-sub-sum-of : tie.Need-sub-sum-of
-sub-sum-of c = search needs
-
-part-sum-of-start : tie.Need-part-sum-of-start
-part-sum-of-start c = search needs
-
-part-sum-of-end : tie.Need-part-sum-of-end
-part-sum-of-end c = search needs
-
-sum-of-requires : tie.Need-sum-of-requires
-sum-of-requires c κs = search needs
-
-sub-record-parity : tie.Need-sub-record-parity
-sub-record-parity c = search needs
-
-part-record-parity-start : tie.Need-part-record-parity-start
-part-record-parity-start c = search needs
-
-part-record-parity-end : tie.Need-part-record-parity-end
-part-record-parity-end c = search needs
-
 record-parity-requires : tie.Need-record-parity-requires
 record-parity-requires c κs =
     let o = c .before .before .before .before .before in
@@ -54,18 +30,6 @@ add-after c =
           (rw q at (t .ensures)) (rw q at (r .ensures .0)) (rw q at (r .ensures .1)),
     )
 
-add-end : tie.Need-add-end
-add-end c = search needs
-
-sub-write-index : tie.Need-sub-write-index
-sub-write-index c = search needs
-
-part-write-index-start : tie.Need-part-write-index-start
-part-write-index-start c = search needs
-
-part-write-index-end : tie.Need-part-write-index-end
-part-write-index-end c = search needs
-
 mul-write-index : tie.Need-mul-write-index
 mul-write-index c =
     let o = c .before .before .before .before .before .before .before .before .before in
@@ -78,9 +42,6 @@ write-index-requires c κs =
     let q : a .a + a .len - a .a ≡ a .len = omega arith in
     let p : a .b + a .w - a .b ≡ a .w = omega arith in
     rw (q, p) (index-asks (a .a) (a .len) (a .b) (a .w) (a .top) (a .sheet .now) (o .pre .0) (a .number) (a .value) (c .before .before .before .record-parity .last .0) (rw q at (c .before .before .before .record-parity .ensures .0)) (o .pre .3))
-
-same-length : tie.Need-same-length
-same-length c = search needs
 
 returns : tie.Need-returns
 returns c =
@@ -103,21 +64,21 @@ pub record-value-spec : {M : Type 1} → statement M
 record-value-spec =
     tie.close
     (tie.spec
-    add-e
-    sub-sum-of
-    part-sum-of-start
-    part-sum-of-end
-    sum-of-requires
-    sub-record-parity
-    part-record-parity-start
-    part-record-parity-end
+    (λ c. search needs)
+    (λ c. search needs)
+    (λ c. search needs)
+    (λ c. search needs)
+    (λ c κs. search needs)
+    (λ c. search needs)
+    (λ c. search needs)
+    (λ c. search needs)
     record-parity-requires
     add-after
-    add-end
-    sub-write-index
-    part-write-index-start
-    part-write-index-end
+    (λ c. search needs)
+    (λ c. search needs)
+    (λ c. search needs)
+    (λ c. search needs)
     mul-write-index
     write-index-requires
-    same-length
+    (λ c. search needs)
     returns)

@@ -25,35 +25,11 @@ Inv-pairs n bits later₀ later = (later ≤ n) × Distinct (take later bits)
 abbrev μ-pairs : tie.MeasureT-pairs
 μ-pairs n bits later₀ later = n - later
 
-pairs-holds : tie.Need-pairs-holds Inv-loop μ-loop Inv-pairs μ-pairs
-pairs-holds c = search needs
-
-loop-holds : tie.Need-loop-holds Inv-loop μ-loop Inv-pairs μ-pairs
-loop-holds c = search needs
-
-array-read-if1 : tie.Need-array-read-if1 Inv-loop μ-loop Inv-pairs μ-pairs
-array-read-if1 c = search needs
-
-array-read-if1-2 : tie.Need-array-read-if1-2 Inv-loop μ-loop Inv-pairs μ-pairs
-array-read-if1-2 c = search needs
-
-add-earlier : tie.Need-add-earlier Inv-loop μ-loop Inv-pairs μ-pairs
-add-earlier c = search needs
-
-loop-less : tie.Need-loop-less Inv-loop μ-loop Inv-pairs μ-pairs
-loop-less c = search needs
-
 loop-again : tie.Need-loop-again Inv-loop μ-loop Inv-pairs μ-pairs
 loop-again c =
     let e = c .before .before in
     let o = e .before .before in
     (omega arith, absent-more (getD (o .before .args .t1) (o .pairs .later) 0) (e .loop .earlier) (o .before .args .t1) (omega arith) (e .loop .inv .1) (c .if1 .left))
-
-add-later : tie.Need-add-later Inv-loop μ-loop Inv-pairs μ-pairs
-add-later c = search needs
-
-pairs-less : tie.Need-pairs-less Inv-loop μ-loop Inv-pairs μ-pairs
-pairs-less c = search needs
 
 pairs-again : tie.Need-pairs-again Inv-loop μ-loop Inv-pairs μ-pairs
 pairs-again c =
@@ -83,15 +59,15 @@ check-repeats-spec =
     μ-loop
     Inv-pairs
     μ-pairs
-    pairs-holds
-    loop-holds
-    array-read-if1
-    array-read-if1-2
-    add-earlier
-    loop-less
+    (λ c. search needs)
+    (λ c. search needs)
+    (λ c. search needs)
+    (λ c. search needs)
+    (λ c. search needs)
+    (λ c. search needs)
     loop-again
-    add-later
-    pairs-less
+    (λ c. search needs)
+    (λ c. search needs)
     pairs-again
     returns
     returns-2)

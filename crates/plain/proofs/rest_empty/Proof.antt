@@ -7,26 +7,14 @@ use Rattle.plain.specs.OrderLaws.{from-inside, rest-false, rest-true}
 use Rattle.plain.proofs.rest_empty.Statement.{statement}
 use Rattle.plain.proofs.rest_empty.Tie as tie
 
-past-run-requires : tie.Need-past-run-requires
-past-run-requires c κs = search needs
-
 mul-a : tie.Need-mul-a
 mul-a c = let a = c .before .before .args in omega (arith, from-inside (a .k) (a .m) (c .past-run .result) (a .cells .now) (c .past-run .ensures .1))
-
-mul-e : tie.Need-mul-e
-mul-e c = search needs
 
 sub-all-zero : tie.Need-sub-all-zero
 sub-all-zero c = let a = c .before .before .args in omega (arith, from-inside (a .k) (a .m) (c .past-run .result) (a .cells .now) (c .past-run .ensures .1))
 
 part-all-zero-start : tie.Need-part-all-zero-start
 part-all-zero-start c = let a = c .before .before .args in omega (arith, from-inside (a .k) (a .m) (c .past-run .result) (a .cells .now) (c .past-run .ensures .1))
-
-part-all-zero-end : tie.Need-part-all-zero-end
-part-all-zero-end c = search needs
-
-all-zero-requires : tie.Need-all-zero-requires
-all-zero-requires c κs = search needs
 
 returns : tie.Need-returns
 returns c =
@@ -41,11 +29,11 @@ pub rest-empty-spec : {M : Type 1} → statement M
 rest-empty-spec =
     tie.close
     (tie.spec
-    past-run-requires
+    (λ c κs. search needs)
     mul-a
-    mul-e
+    (λ c. search needs)
     sub-all-zero
     part-all-zero-start
-    part-all-zero-end
-    all-zero-requires
+    (λ c. search needs)
+    (λ c κs. search needs)
     returns)

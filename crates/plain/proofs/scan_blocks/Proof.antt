@@ -76,9 +76,6 @@ few c = leb-true _ _ (c .before .before .before .before .if1 .taken)
 whole : (c : tie.Left-loop Inv-loop μ-loop) → c .before .loop .next < c .before .before .before .before .args .m → c .before .loop .n ≤ c .before .before .before .before .args .k → ⊥
 whole c h l = ⊎-elim (λ w. omega (arith, leb-false (c .before .loop .n) (c .before .before .before .before .args .k) (w .1 .left))) (λ w. omega (arith, w .left)) (c .loop-test .came)
 
-run-blocks-requires : tie.Need-run-blocks-requires Inv-loop μ-loop
-run-blocks-requires c κs = search needs
-
 cast-places : tie.Need-cast-places Inv-loop μ-loop
 cast-places c =
     let a = c .before .before .args in
@@ -89,24 +86,12 @@ loop-holds c =
     let a = c .before .before .args in
     (search needs, search needs, search needs, search needs, search needs, noted-none (a .k) (a .m) (states (a .k) (a .top) (a .cells .now)) (omega arith), order-none (states (a .k) (a .top) (a .cells .now)) (a .m))
 
-add-next : tie.Need-add-next Inv-loop μ-loop
-add-next c = search needs
-
 state-at-requires : tie.Need-state-at-requires Inv-loop μ-loop
 state-at-requires c κs =
     let o = c .before .before in
     let a = o .before .before .before .args in
     let h = block-end (a .k) (a .m) (o .loop .next) (length (a .cells .now)) (omega arith) (c .before .loop-test .taken) in
     ((omega arith, omega arith, omega arith, h, omega arith), o .before .before .before .pre .1)
-
-enum-told : tie.Need-enum-told Inv-loop μ-loop
-enum-told c = search needs
-
-past-run-requires : tie.Need-past-run-requires Inv-loop μ-loop
-past-run-requires c κs = search needs
-
-loop-less : tie.Need-loop-less Inv-loop μ-loop
-loop-less c = search needs
 
 loop-again : tie.Need-loop-again Inv-loop μ-loop
 loop-again c =
@@ -125,15 +110,6 @@ loop-again c =
       past-all (a .k) (a .top) (a .m) (a .cells .now) (omega arith) (omega arith) (omega arith) (o .before .before .before .pre .1) (λ y. Ordered st (a .m) y (o .loop .free) true) (run .0) (run .1) (run .2) (λ y l q h. order-full h l q) (order-full (o .loop .inv .6) (omega arith) e),
     )
 
-enum-told-2 : tie.Need-enum-told-2 Inv-loop μ-loop
-enum-told-2 c = search needs
-
-rest-empty-requires : tie.Need-rest-empty-requires Inv-loop μ-loop
-rest-empty-requires c κs = search needs
-
-refused-requires : tie.Need-refused-requires Inv-loop μ-loop
-refused-requires c κs = search needs
-
 returns : tie.Need-returns Inv-loop μ-loop
 returns c =
     let r = c .before .before in
@@ -142,9 +118,6 @@ returns c =
     let a = o .before .before .before .args in
     scan-hole (a .k) (a .top) (a .m) (o .loop .next) (a .cells .now) _ (c .refused .ensures) (omega arith) (state-is (t .before .before) _ (ap asState (t .enum-told2 .given .1)))
     (λ h. r .rest-empty .ensures .1 (not-true _ (c .before .if2 .taken)) (rest-weights (a .k) (a .top) (a .m) (a .cells .now) (omega arith) (omega arith) (omega arith) (o .before .before .before .pre .1) h))
-
-loop-less-2 : tie.Need-loop-less-2 Inv-loop μ-loop
-loop-less-2 c = search needs
 
 loop-again-2 : tie.Need-loop-again-2 Inv-loop μ-loop
 loop-again-2 c =
@@ -163,12 +136,6 @@ loop-again-2 c =
       order-empty (o .loop .inv .6) (omega arith) (λ y l q. subst IsEmpty (sym (rest y l q)) tt),
     )
 
-enum-told-3 : tie.Need-enum-told-3 Inv-loop μ-loop
-enum-told-3 c = search needs
-
-refused-requires-2 : tie.Need-refused-requires-2 Inv-loop μ-loop
-refused-requires-2 c κs = search needs
-
 returns-2 : tie.Need-returns-2 Inv-loop μ-loop
 returns-2 c =
     let t = c .before in
@@ -176,9 +143,6 @@ returns-2 c =
     let a = o .before .before .before .args in
     scan-broken (a .k) (a .top) (a .m) (o .loop .next) (a .cells .now) _ (c .refused2 .ensures) (omega arith)
     (state-is (t .before .before) _ (ap asState (t .enum-told3 .given .1)))
-
-enum-known-bit : tie.Need-enum-known-bit Inv-loop μ-loop
-enum-known-bit c = search needs
 
 cast-bits : tie.Need-cast-bits Inv-loop μ-loop
 cast-bits c = omega (arith, bit-below c)
@@ -209,9 +173,6 @@ mul-weights c = omega (arith, bit-below c)
 array-write-weights : tie.Need-array-write-weights Inv-loop μ-loop
 array-write-weights c = omega (arith, bit-below c)
 
-loop-less-3 : tie.Need-loop-less-3 Inv-loop μ-loop
-loop-less-3 c = search needs
-
 loop-again-3 : tie.Need-loop-again-3 Inv-loop μ-loop
 loop-again-3 c =
     let o = c .before .before .before .before .before .before in
@@ -230,15 +191,6 @@ loop-again-3 c =
       order-active (o .loop .inv .6) (omega arith) (active-is c),
     )
 
-check-repeats-requires : tie.Need-check-repeats-requires Inv-loop μ-loop
-check-repeats-requires c κs = search needs
-
-check-last-requires : tie.Need-check-last-requires Inv-loop μ-loop
-check-last-requires c κs = search needs
-
-look-of-requires : tie.Need-look-of-requires Inv-loop μ-loop
-look-of-requires c κs = search needs
-
 returns-3 : tie.Need-returns-3 Inv-loop μ-loop
 returns-3 c =
     let r = c .before .before in
@@ -254,25 +206,25 @@ scan-blocks-spec =
     (tie.spec
     Inv-loop
     μ-loop
-    run-blocks-requires
+    (λ c κs. search needs)
     cast-places
     loop-holds
-    add-next
+    (λ c. search needs)
     state-at-requires
-    enum-told
-    past-run-requires
-    loop-less
+    (λ c. search needs)
+    (λ c κs. search needs)
+    (λ c. search needs)
     loop-again
-    enum-told-2
-    rest-empty-requires
-    refused-requires
+    (λ c. search needs)
+    (λ c κs. search needs)
+    (λ c κs. search needs)
     returns
-    loop-less-2
+    (λ c. search needs)
     loop-again-2
-    enum-told-3
-    refused-requires-2
+    (λ c. search needs)
+    (λ c κs. search needs)
     returns-2
-    enum-known-bit
+    (λ c. search needs)
     cast-bits
     array-write-bits
     add-n
@@ -282,9 +234,9 @@ scan-blocks-spec =
     cast-weights
     mul-weights
     array-write-weights
-    loop-less-3
+    (λ c. search needs)
     loop-again-3
-    check-repeats-requires
-    check-last-requires
-    look-of-requires
+    (λ c κs. search needs)
+    (λ c κs. search needs)
+    (λ c κs. search needs)
     returns-3)

@@ -6,21 +6,6 @@ use Rattle.plain.specs.Laws.{part-length, part-low, part-state}
 use Rattle.plain.proofs.state_at.Statement.{statement}
 use Rattle.plain.proofs.state_at.Tie as tie
 
-mul-a : tie.Need-mul-a
-mul-a c = search needs
-
-add-e : tie.Need-add-e
-add-e c = search needs
-
-sub-state-of : tie.Need-sub-state-of
-sub-state-of c = search needs
-
-part-state-of-start : tie.Need-part-state-of-start
-part-state-of-start c = search needs
-
-part-state-of-end : tie.Need-part-state-of-end
-part-state-of-end c = search needs
-
 state-of-requires : tie.Need-state-of-requires
 state-of-requires c κs =
     let a = c .before .before .args in
@@ -36,10 +21,10 @@ pub state-at-spec : {M : Type 1} → statement M
 state-at-spec =
     tie.close
     (tie.spec
-    mul-a
-    add-e
-    sub-state-of
-    part-state-of-start
-    part-state-of-end
+    (λ c. search needs)
+    (λ c. search needs)
+    (λ c. search needs)
+    (λ c. search needs)
+    (λ c. search needs)
     state-of-requires
     returns)

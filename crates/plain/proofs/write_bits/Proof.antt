@@ -17,33 +17,6 @@ Inv-loop out₀ k weights ones₀ i₀ out ones i = (i ≤ k) × (ones ≤ i) ×
 abbrev μ-loop : tie.MeasureT-loop
 μ-loop out₀ k weights ones₀ i₀ out ones i = k - i
 
-loop-holds : tie.Need-loop-holds Inv-loop μ-loop
-loop-holds c = search needs
-
-mul-value : tie.Need-mul-value Inv-loop μ-loop
-mul-value c = search needs
-
-array-read-value : tie.Need-array-read-value Inv-loop μ-loop
-array-read-value c = search needs
-
-cast-out : tie.Need-cast-out Inv-loop μ-loop
-cast-out c = search needs
-
-slice-write-out : tie.Need-slice-write-out Inv-loop μ-loop
-slice-write-out c = search needs
-
-cast-ones : tie.Need-cast-ones Inv-loop μ-loop
-cast-ones c = search needs
-
-add-ones : tie.Need-add-ones Inv-loop μ-loop
-add-ones c = search needs
-
-add-i : tie.Need-add-i Inv-loop μ-loop
-add-i c = search needs
-
-loop-less : tie.Need-loop-less Inv-loop μ-loop
-loop-less c = search needs
-
 loop-again : tie.Need-loop-again Inv-loop μ-loop
 loop-again c =
     let l = c .before in
@@ -55,9 +28,6 @@ loop-again c =
       simp length-set (omega arith),
       ap (λ z. set z (l .loop .i) (getD (a .t3) (l .loop .i) 0 % 2)) (l .loop .inv .4) ∙ parities-set (l .loop .i) (a .t3) (a .out .now) h,
     )
-
-same-length : tie.Need-same-length Inv-loop μ-loop
-same-length c = search needs
 
 returns : tie.Need-returns Inv-loop μ-loop
 returns c =
@@ -72,15 +42,15 @@ write-bits-spec =
     (tie.spec
     Inv-loop
     μ-loop
-    loop-holds
-    mul-value
-    array-read-value
-    cast-out
-    slice-write-out
-    cast-ones
-    add-ones
-    add-i
-    loop-less
+    (λ c. search needs)
+    (λ c. search needs)
+    (λ c. search needs)
+    (λ c. search needs)
+    (λ c. search needs)
+    (λ c. search needs)
+    (λ c. search needs)
+    (λ c. search needs)
+    (λ c. search needs)
     loop-again
-    same-length
+    (λ c. search needs)
     returns)

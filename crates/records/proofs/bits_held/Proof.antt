@@ -5,30 +5,12 @@ use borrow.Author.Needs.{needs}
 use Rattle.records.proofs.bits_held.Statement.{statement}
 use Rattle.records.proofs.bits_held.Tie as tie
 
-front-requires : tie.Need-front-requires
-front-requires c κs = search needs
-
-slice-aggregate-read : tie.Need-slice-aggregate-read
-slice-aggregate-read c = search needs
-
-read-requires : tie.Need-read-requires
-read-requires c κs = search needs
-
-number-requires : tie.Need-number-requires
-number-requires c κs = search needs
-
-same-length : tie.Need-same-length
-same-length c = search needs
-
 returns : tie.Need-returns
 returns c =
     let n = c .before in
     let e = n .before .before .before in
     let s = e .before .before .before .before .before .before in
     bits-done (s .args .held) (s .args .cells .now) _ _ _ (e .read .result) (e .before .before .before .front .ensures) (e .read .ensures) (sym (n .number .ensures) ∙ c .if1 .taken)
-
-same-length-2 : tie.Need-same-length-2
-same-length-2 c = search needs
 
 returns-2 : tie.Need-returns-2
 returns-2 c =
@@ -41,11 +23,11 @@ pub bits-held-spec : {M : Type 1} → statement M
 bits-held-spec =
     tie.close
     (tie.spec
-    front-requires
-    slice-aggregate-read
-    read-requires
-    number-requires
-    same-length
+    (λ c κs. search needs)
+    (λ c. search needs)
+    (λ c κs. search needs)
+    (λ c κs. search needs)
+    (λ c. search needs)
     returns
-    same-length-2
+    (λ c. search needs)
     returns-2)

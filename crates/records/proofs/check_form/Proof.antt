@@ -9,20 +9,11 @@ use Rattle.records.proofs.check_form.Tie as tie
 returns : tie.Need-returns
 returns c = sym (tested-broken (form-tested _) (λ a. omega arith))
 
-shared-slice-read-if2 : tie.Need-shared-slice-read-if2
-shared-slice-read-if2 c = search needs
-
 returns-2 : tie.Need-returns-2
 returns-2 c = sym (tested-broken (form-tested _) (λ a. omega arith))
 
-shared-slice-read-if3 : tie.Need-shared-slice-read-if3
-shared-slice-read-if3 c = search needs
-
 returns-3 : tie.Need-returns-3
 returns-3 c = sym (tested-broken (form-tested _) (λ a. omega arith))
-
-shared-slice-read-if4 : tie.Need-shared-slice-read-if4
-shared-slice-read-if4 c = search needs
 
 returns-4 : tie.Need-returns-4
 returns-4 c = sym (tested-broken (form-tested _) (λ a. omega arith))
@@ -35,10 +26,10 @@ check-form-spec =
     tie.close
     (tie.spec
     returns
-    shared-slice-read-if2
+    (λ c. search needs)
     returns-2
-    shared-slice-read-if3
+    (λ c. search needs)
     returns-3
-    shared-slice-read-if4
+    (λ c. search needs)
     returns-4
     returns-5)

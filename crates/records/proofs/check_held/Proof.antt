@@ -9,26 +9,14 @@ use Rattle.records.proofs.check_held.Tie as tie
 returns : tie.Need-returns
 returns c = sym (tested-broken (held-tested _ _) (λ a. omega arith))
 
-byte-at-requires : tie.Need-byte-at-requires
-byte-at-requires c κs = search needs
-
 returns-2 : tie.Need-returns-2
 returns-2 c = sym (tested-broken (held-tested _ _) (λ a. omega arith))
-
-byte-at-requires-2 : tie.Need-byte-at-requires-2
-byte-at-requires-2 c κs = search needs
 
 returns-3 : tie.Need-returns-3
 returns-3 c = sym (tested-broken (held-tested _ _) (λ a. omega arith))
 
-byte-at-requires-3 : tie.Need-byte-at-requires-3
-byte-at-requires-3 c κs = search needs
-
 returns-4 : tie.Need-returns-4
 returns-4 c = sym (tested-broken (held-tested _ _) (λ a. omega arith))
-
-cells-asked-requires : tie.Need-cells-asked-requires
-cells-asked-requires c κs = search needs
 
 returns-5 : tie.Need-returns-5
 returns-5 c = sym (tested-broken (held-tested _ _) (λ a. omega arith))
@@ -41,12 +29,12 @@ check-held-spec =
     tie.close
     (tie.spec
     returns
-    byte-at-requires
+    (λ c κs. search needs)
     returns-2
-    byte-at-requires-2
+    (λ c κs. search needs)
     returns-3
-    byte-at-requires-3
+    (λ c κs. search needs)
     returns-4
-    cells-asked-requires
+    (λ c κs. search needs)
     returns-5
     returns-6)

@@ -7,30 +7,15 @@ use borrow.Author.Needs.{needs}
 use Rattle.records.proofs.check_use.Statement.{statement}
 use Rattle.records.proofs.check_use.Tie as tie
 
-byte-at-requires : tie.Need-byte-at-requires
-byte-at-requires c κs = search needs
-
-check-unused-requires : tie.Need-check-unused-requires
-check-unused-requires c κs = search needs
-
 returns : tie.Need-returns
 returns c =
     let b = c .before .before in
     c .check-unused .ensures ∙ sym (use-one _ _ (sym (b .byte-at .ensures .0) ∙ c .before .if1 .taken))
 
-check-held-requires : tie.Need-check-held-requires
-check-held-requires c κs = search needs
-
 returns-2 : tie.Need-returns-2
 returns-2 c =
     let b = c .before .before .before in
     c .check-held .ensures ∙ sym (use-two _ _ (sym (b .byte-at .ensures .0) ∙ c .before .if2 .taken))
-
-check-unused-requires-2 : tie.Need-check-unused-requires-2
-check-unused-requires-2 c κs = search needs
-
-enum-told : tie.Need-enum-told
-enum-told c = search needs
 
 returns-3 : tie.Need-returns-3
 returns-3 c =
@@ -39,9 +24,6 @@ returns-3 c =
     let e = b .byte-at .ensures .0 in
     ends-there (u .check-unused2 .result) _ (u .check-unused2 .ensures) (not-done _ (c .match .keys2))
     ∙ sym (use-three _ _ (b .before .before .args .held) (b .before .before .pre .1) (λ q. u .before .before .if1 .left (e ∙ q)) (λ q. u .before .if2 .left (e ∙ q)))
-
-check-held-requires-2 : tie.Need-check-held-requires-2
-check-held-requires-2 c κs = search needs
 
 returns-4 : tie.Need-returns-4
 returns-4 c =
@@ -54,13 +36,13 @@ pub check-use-spec : {M : Type 1} → statement M
 check-use-spec =
     tie.close
     (tie.spec
-    byte-at-requires
-    check-unused-requires
+    (λ c κs. search needs)
+    (λ c κs. search needs)
     returns
-    check-held-requires
+    (λ c κs. search needs)
     returns-2
-    check-unused-requires-2
-    enum-told
+    (λ c κs. search needs)
+    (λ c. search needs)
     returns-3
-    check-held-requires-2
+    (λ c κs. search needs)
     returns-4)

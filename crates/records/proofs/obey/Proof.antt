@@ -10,12 +10,6 @@ use borrow.Author.Needs.{needs}
 use Rattle.records.proofs.obey.Statement.{statement}
 use Rattle.records.proofs.obey.Tie as tie
 
-check-record-requires : tie.Need-check-record-requires
-check-record-requires c κs = search needs
-
-enum-told : tie.Need-enum-told
-enum-told c = search needs
-
 returns : tie.Need-returns
 returns c =
     let k = c .before in
@@ -30,12 +24,6 @@ asked-for-requires : tie.Need-asked-for-requires
 asked-for-requires c κs =
     let t = c .before .before in
     omega (arith, record-form _ _ (sym (t .before .before .check-record .ensures) ∙ ap asCheck (t .enum-told .given .1)) .whole)
-
-obey-erase-requires : tie.Need-obey-erase-requires
-obey-erase-requires c κs = search needs
-
-same-length : tie.Need-same-length
-same-length c = search needs
 
 returns-2 : tie.Need-returns-2
 returns-2 c =
@@ -53,12 +41,6 @@ byte-at-requires-2 c κs =
     let t = c .before .before .before .before in
     omega (arith, record-form _ _ (sym (t .before .before .check-record .ensures) ∙ ap asCheck (t .enum-told .given .1)) .whole)
 
-obey-change-requires : tie.Need-obey-change-requires
-obey-change-requires c κs = search needs
-
-same-length-2 : tie.Need-same-length-2
-same-length-2 c = search needs
-
 returns-3 : tie.Need-returns-3
 returns-3 c =
     let e = c .before .before in
@@ -70,12 +52,6 @@ returns-3 c =
     let p = sym (t .before .before .check-record .ensures) ∙ ap asCheck (t .enum-told .given .1) in
     step-told (e .obey-change .ensures ∙ ap (changeStep (a .held) (a .cells .now)) (f .byte-at2 .ensures .0)
     ∙ sym (record-first _ _ _ p ∙ work-two _ _ _ (sym (b .byte-at .ensures .0) ∙ g .if2 .taken)))
-
-obey-read-requires : tie.Need-obey-read-requires
-obey-read-requires c κs = search needs
-
-same-length-3 : tie.Need-same-length-3
-same-length-3 c = search needs
 
 returns-4 : tie.Need-returns-4
 returns-4 c =
@@ -92,18 +68,18 @@ pub obey-spec : {M : Type 1} → statement M
 obey-spec =
     tie.close
     (tie.spec
-    check-record-requires
-    enum-told
+    (λ c κs. search needs)
+    (λ c. search needs)
     returns
     byte-at-requires
     asked-for-requires
-    obey-erase-requires
-    same-length
+    (λ c κs. search needs)
+    (λ c. search needs)
     returns-2
     byte-at-requires-2
-    obey-change-requires
-    same-length-2
+    (λ c κs. search needs)
+    (λ c. search needs)
     returns-3
-    obey-read-requires
-    same-length-3
+    (λ c κs. search needs)
+    (λ c. search needs)
     returns-4)

@@ -4,21 +4,6 @@ use borrow.Author.Needs.{needs}
 use Rattle.records.proofs.obey_change.Statement.{statement}
 use Rattle.records.proofs.obey_change.Tie as tie
 
-front-requires : tie.Need-front-requires
-front-requires c κs = search needs
-
-slice-relend-prefix-change : tie.Need-slice-relend-prefix-change
-slice-relend-prefix-change c = search needs
-
-slice-aggregate-change : tie.Need-slice-aggregate-change
-slice-aggregate-change c = search needs
-
-change-requires : tie.Need-change-requires
-change-requires c κs = search needs
-
-same-length : tie.Need-same-length
-same-length c = search needs
-
 returns : tie.Need-returns
 returns c =
     let e = c .before .before in
@@ -30,9 +15,9 @@ pub obey-change-spec : {M : Type 1} → statement M
 obey-change-spec =
     tie.close
     (tie.spec
-    front-requires
-    slice-relend-prefix-change
-    slice-aggregate-change
-    change-requires
-    same-length
+    (λ c κs. search needs)
+    (λ c. search needs)
+    (λ c. search needs)
+    (λ c κs. search needs)
+    (λ c. search needs)
     returns)

@@ -9,15 +9,6 @@ use borrow.Author.Needs.{needs}
 use Rattle.records.proofs.sum_held.Statement.{statement}
 use Rattle.records.proofs.sum_held.Tie as tie
 
-genuine-requires : tie.Need-genuine-requires
-genuine-requires c κs = search needs
-
-front-requires : tie.Need-front-requires
-front-requires c κs = search needs
-
-slice-aggregate-sum-of : tie.Need-slice-aggregate-sum-of
-slice-aggregate-sum-of c = search needs
-
 sum-of-requires : tie.Need-sum-of-requires
 sum-of-requires c κs =
     let f = c .before in
@@ -38,9 +29,9 @@ pub sum-held-spec : {M : Type 1} → statement M
 sum-held-spec =
     tie.close
     (tie.spec
-    genuine-requires
-    front-requires
-    slice-aggregate-sum-of
+    (λ c κs. search needs)
+    (λ c κs. search needs)
+    (λ c. search needs)
     sum-of-requires
     returns
     returns-2)

@@ -8,17 +8,8 @@ use Rattle.sheet.specs.CallLaws.{change-bit, change-passed, change-refus
 use Rattle.sheet.proofs.change.Statement.{statement}
 use Rattle.sheet.proofs.change.Tie as tie
 
-sizes-of-requires : tie.Need-sizes-of-requires
-sizes-of-requires c κs = search needs
-
 look-at-requires : tie.Need-look-at-requires
 look-at-requires c κs = c .before .sizes-of .ensures
-
-enum-known-answer : tie.Need-enum-known-answer
-enum-known-answer c = search needs
-
-same-length : tie.Need-same-length
-same-length c = search needs
 
 returns : tie.Need-returns
 returns c = told (change-refused _ _ _ _ _ (c .before .look-at .ensures) refl (not-done _ (c .match .keys2)))
@@ -33,9 +24,6 @@ change-plain-requires c κs =
     let g = h .look _ e in
     let s = seen-plain _ _ _ _ (seen-is _ _ _ _ (g .2) e .1) (c .before .if1 .taken) in
     (s .0, g .1, change-bit _ _ _ _ _ h e, sized _ _ (z .sizes-of .ensures) (g .0), s .1)
-
-same-length-2 : tie.Need-same-length-2
-same-length-2 c = search needs
 
 returns-2 : tie.Need-returns-2
 returns-2 c =
@@ -53,9 +41,6 @@ change-stage0-requires c κs =
     let g = h .look _ e in
     let s = seen-zero _ _ _ _ (seen-is _ _ _ _ (g .2) e .1) (c .before .before .if1 .left) (c .before .if2 .taken) in
     (s .0, g .1, change-bit _ _ _ _ _ h e, s .1, sized _ _ (z .sizes-of .ensures) (g .0))
-
-same-length-3 : tie.Need-same-length-3
-same-length-3 c = search needs
 
 returns-3 : tie.Need-returns-3
 returns-3 c =
@@ -90,9 +75,6 @@ change-stage-requires c κs =
     let s = seen-later _ _ _ _ (seen-is _ _ _ _ (g .2) e .1) (c .before .before .before .if1 .left) (c .before .before .if2 .left) in
     (s .0, g .1, change-bit _ _ _ _ _ h e, s .1, sized _ _ (z .sizes-of .ensures) (g .0))
 
-same-length-4 : tie.Need-same-length-4
-same-length-4 c = search needs
-
 returns-4 : tie.Need-returns-4
 returns-4 c =
     let p = c .before .before in
@@ -103,19 +85,19 @@ pub change-spec : {M : Type 1} → statement M
 change-spec =
     tie.close
     (tie.spec
-    sizes-of-requires
+    (λ c κs. search needs)
     look-at-requires
-    enum-known-answer
-    same-length
+    (λ c. search needs)
+    (λ c. search needs)
     returns
     change-plain-requires
-    same-length-2
+    (λ c. search needs)
     returns-2
     change-stage0-requires
-    same-length-3
+    (λ c. search needs)
     returns-3
     sub-change-stage
     sub-change-stage-2
     change-stage-requires
-    same-length-4
+    (λ c. search needs)
     returns-4)

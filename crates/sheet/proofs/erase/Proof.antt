@@ -12,29 +12,14 @@ use Rattle.laws.specs.Calls.{checked-holds, erase-checks, erase-first, not-done
 use Rattle.sheet.proofs.erase.Statement.{statement}
 use Rattle.sheet.proofs.erase.Tie as tie
 
-blocks-requires : tie.Need-blocks-requires
-blocks-requires c κs = search needs
-
 check-size-requires : tie.Need-check-size-requires
 check-size-requires c κs = c .blocks2 .ensures
-
-enum-told : tie.Need-enum-told
-enum-told c = search needs
 
 returns : tie.Need-returns
 returns c =
     let s = c .before in
     let o = s .before .before .before in
     told (sym (erase-first (o .args .settings) (o .args .sheet .now) (sym (s .check-size .ensures) ∙ refusal-told (s .check-size .result) (not-done _ (c .match .keys2)))))
-
-fill-requires : tie.Need-fill-requires
-fill-requires c κs = search needs
-
-guarantee-requires : tie.Need-guarantee-requires
-guarantee-requires c κs = search needs
-
-same-length : tie.Need-same-length
-same-length c = search needs
 
 returns-2 : tie.Need-returns-2
 returns-2 c =
@@ -51,11 +36,11 @@ pub erase-spec : {M : Type 1} → statement M
 erase-spec =
     tie.close
     (tie.spec
-    blocks-requires
+    (λ c κs. search needs)
     check-size-requires
-    enum-told
+    (λ c. search needs)
     returns
-    fill-requires
-    guarantee-requires
-    same-length
+    (λ c κs. search needs)
+    (λ c κs. search needs)
+    (λ c. search needs)
     returns-2)

@@ -12,12 +12,6 @@ use Rattle.sheet.proofs.look_at.Tie as tie
 check-call-requires : tie.Need-check-call-requires
 check-call-requires c κs = ap (λ (z : Sizes). z .blocks) (c .before .pre)
 
-enum-told : tie.Need-enum-told
-enum-told c = search needs
-
-no-look-requires : tie.Need-no-look-requires
-no-look-requires c κs = search needs
-
 returns : tie.Need-returns
 returns c =
     let k = c .before .before in
@@ -40,8 +34,8 @@ look-at-spec =
     tie.close
     (tie.spec
     check-call-requires
-    enum-told
-    no-look-requires
+    (λ c. search needs)
+    (λ c κs. search needs)
     returns
     check-sheet-requires
     returns-2)

@@ -9,14 +9,8 @@ use Rattle.sheet.specs.CallLaws.{read-made, read-places, read-refused}
 use Rattle.sheet.proofs.read.Statement.{statement}
 use Rattle.sheet.proofs.read.Tie as tie
 
-sizes-of-requires : tie.Need-sizes-of-requires
-sizes-of-requires c κs = search needs
-
 look-at-requires : tie.Need-look-at-requires
 look-at-requires c κs = c .sizes-of .ensures
-
-enum-told : tie.Need-enum-told
-enum-told c = search needs
 
 returns : tie.Need-returns
 returns c = told-read (read-refused _ _ _ _ _ (c .before .look-at .ensures) refl (not-done _ (c .match .keys2)))
@@ -28,9 +22,6 @@ write-bits-requires c κs =
     let a = l .before .before .before .before .args in
     (omega (arith, genuine-common _ (l .look-at .ensures .look _ (t .enum-told .given .1) .0) .bits-most), read-places (a .settings) (a .sheet .now) (a .out .now) _ _ (l .look-at .ensures) (t .enum-told .given .1))
 
-same-length : tie.Need-same-length
-same-length c = search needs
-
 returns-2 : tie.Need-returns-2
 returns-2 c =
     let w = c .before .before in
@@ -41,10 +32,10 @@ pub read-spec : {M : Type 1} → statement M
 read-spec =
     tie.close
     (tie.spec
-    sizes-of-requires
+    (λ c κs. search needs)
     look-at-requires
-    enum-told
+    (λ c. search needs)
     returns
     write-bits-requires
-    same-length
+    (λ c. search needs)
     returns-2)

@@ -32,12 +32,6 @@ mul-a c = omega (arith, inside c)
 add-e : tie.Need-add-e Inv-loop μ-loop
 add-e c = omega (arith, inside c)
 
-sub-index-of : tie.Need-sub-index-of Inv-loop μ-loop
-sub-index-of c = search needs
-
-part-index-of-start : tie.Need-part-index-of-start Inv-loop μ-loop
-part-index-of-start c = search needs
-
 part-index-of-end : tie.Need-part-index-of-end Inv-loop μ-loop
 part-index-of-end c = omega (arith, inside c)
 
@@ -54,23 +48,11 @@ said c =
     let o = l .before .before in
     c .index-of .ensures ∙ index-said (o .args .w) (o .args .q) (o .args .top) (l .loop .x) (o .args .batch .now) (o .pre) (c .before .before .loop-test .taken)
 
-enum-known-u : tie.Need-enum-known-u Inv-loop μ-loop
-enum-known-u c = search needs
-
 returns : tie.Need-returns Inv-loop μ-loop
 returns c =
     let r = c .before .before .before in
     let l = r .before .before .before in
     next-at (l .loop .x) (c .before .u .given .0 .0) (l .loop .inv .0) (r .before .before .loop-test .taken) (l .loop .inv .1) (sym (said r) ∙ ap asEntry (c .before .u .given .1))
-
-enum-told : tie.Need-enum-told Inv-loop μ-loop
-enum-told c = search needs
-
-add-x : tie.Need-add-x Inv-loop μ-loop
-add-x c = search needs
-
-loop-less : tie.Need-loop-less Inv-loop μ-loop
-loop-less c = search needs
 
 loop-again : tie.Need-loop-again Inv-loop μ-loop
 loop-again c =
@@ -93,14 +75,14 @@ next-index-spec =
     loop-holds
     mul-a
     add-e
-    sub-index-of
-    part-index-of-start
+    (λ c. search needs)
+    (λ c. search needs)
     part-index-of-end
     index-of-requires
-    enum-known-u
+    (λ c. search needs)
     returns
-    enum-told
-    add-x
-    loop-less
+    (λ c. search needs)
+    (λ c. search needs)
+    (λ c. search needs)
     loop-again
     returns-2)

@@ -8,30 +8,6 @@ use Rattle.stage.specs.Meaning.{placeIn}
 use Rattle.stage.proofs.place_in.Statement.{statement}
 use Rattle.stage.proofs.place_in.Tie as tie
 
-mul-place : tie.Need-mul-place
-mul-place c = search needs
-
-element-copy-out-place : tie.Need-element-copy-out-place
-element-copy-out-place c = search needs
-
-cast-place : tie.Need-cast-place
-cast-place c = search needs
-
-element-copy-out-t13 : tie.Need-element-copy-out-t13
-element-copy-out-t13 c = search needs
-
-cast-t14 : tie.Need-cast-t14
-cast-t14 c = search needs
-
-mul-t15 : tie.Need-mul-t15
-mul-t15 c = search needs
-
-element-copy-out-t18 : tie.Need-element-copy-out-t18
-element-copy-out-t18 c = search needs
-
-cast-t19 : tie.Need-cast-t19
-cast-t19 c = search needs
-
 returns : tie.Need-returns
 unfolding placeIn
 returns c = sym (pick-yes (decLt _ _) _ _ (c .before .before .if1 .taken))
@@ -48,14 +24,14 @@ pub place-in-spec : {M : Type 1} → statement M
 place-in-spec =
     tie.close
     (tie.spec
-    mul-place
-    element-copy-out-place
-    cast-place
-    element-copy-out-t13
-    cast-t14
-    mul-t15
-    element-copy-out-t18
-    cast-t19
+    (λ c. search needs)
+    (λ c. search needs)
+    (λ c. search needs)
+    (λ c. search needs)
+    (λ c. search needs)
+    (λ c. search needs)
+    (λ c. search needs)
+    (λ c. search needs)
     returns
     returns-2
     returns-3)

@@ -19,14 +19,8 @@ Inv-loop stage cell cells batch len count w k top step none s₀ next₀ at₀ s
 abbrev μ-loop : tie.MeasureT-loop
 μ-loop stage cell cells batch len count w k top step none s₀ next₀ at₀ s next at = count - at
 
-run-blocks-requires : tie.Need-run-blocks-requires Inv-loop μ-loop
-run-blocks-requires c κs = search needs
-
 cast-none : tie.Need-cast-none Inv-loop μ-loop
 cast-none c = omega (arith, count-most (c .before .before .before .pre))
-
-begin-requires : tie.Need-begin-requires Inv-loop μ-loop
-begin-requires c κs = search needs
 
 loop-holds : tie.Need-loop-holds Inv-loop μ-loop
 loop-holds c = rw (c .begin .ensures) (scan-begun (c .before .before .before .before .pre .few))
@@ -36,9 +30,6 @@ weight-of-requires c κs =
     let a = c .before .before .before .before .before .before .args in
     omega (arith, block-fits (a .len) (c .before .loop .at) (a .count) (c .loop-test .taken))
 
-add-at : tie.Need-add-at Inv-loop μ-loop
-add-at c = search needs
-
 mul-if1 : tie.Need-mul-if1 Inv-loop μ-loop
 mul-if1 c =
     let a = c .before .before .before .before .before .before .before .args in
@@ -46,36 +37,12 @@ mul-if1 c =
     let g : a .top ≤ 255 = omega arith in
     omega (arith, mul-le-mul h g)
 
-past-run-requires : tie.Need-past-run-requires Inv-loop μ-loop
-past-run-requires c κs = search needs
-
-loop-less : tie.Need-loop-less Inv-loop μ-loop
-loop-less c = search needs
-
 loop-again : tie.Need-loop-again Inv-loop μ-loop
 loop-again c =
     let v = c .before .before in
     let l = v .before .before in
     let h = turn-full (l .loop .inv) (v .before .loop-test .taken) (v .weight-of .ensures) (c .before .if1 .taken) in
     turn-past (l .before .before .before .before .before .pre .low) h (c .past-run .ensures .0) (c .past-run .ensures .1) (c .past-run .ensures .2)
-
-sub-next-index : tie.Need-sub-next-index Inv-loop μ-loop
-sub-next-index c = search needs
-
-mul-next-index : tie.Need-mul-next-index Inv-loop μ-loop
-mul-next-index c = search needs
-
-next-index-requires : tie.Need-next-index-requires Inv-loop μ-loop
-next-index-requires c κs = search needs
-
-enum-known-slot : tie.Need-enum-known-slot Inv-loop μ-loop
-enum-known-slot c = search needs
-
-enum-told : tie.Need-enum-told Inv-loop μ-loop
-enum-told c = search needs
-
-unsound-requires : tie.Need-unsound-requires Inv-loop μ-loop
-unsound-requires c κs = search needs
 
 returns : tie.Need-returns Inv-loop μ-loop
 returns c =
@@ -107,38 +74,17 @@ turn-small c =
 add-next : tie.Need-add-next Inv-loop μ-loop
 add-next c = omega (arith, turn c .an-index)
 
-with-free-requires : tie.Need-with-free-requires Inv-loop μ-loop
-with-free-requires c κs = search needs
-
-loop-less-2 : tie.Need-loop-less-2 Inv-loop μ-loop
-loop-less-2 c = search needs
-
 loop-again-2 : tie.Need-loop-again-2 Inv-loop μ-loop
 loop-again-2 c =
     let t = c .before .before .before in
     let z : t .before .slot .given .0 .1 .0 ≡ 0 = omega arith in
     rw (c .with-free .ensures) (turn-first-free (turn t) z (c .before .if3 .taken))
 
-loop-less-3 : tie.Need-loop-less-3 Inv-loop μ-loop
-loop-less-3 c = search needs
-
 loop-again-3 : tie.Need-loop-again-3 Inv-loop μ-loop
 loop-again-3 c =
     let t = c .before .before in
     let z : t .before .slot .given .0 .1 .0 ≡ 0 = omega arith in
     turn-free (turn t) z (c .if3 .left)
-
-sub-bit : tie.Need-sub-bit Inv-loop μ-loop
-sub-bit c = search needs
-
-mul-if5 : tie.Need-mul-if5 Inv-loop μ-loop
-mul-if5 c = search needs
-
-element-copy-out-if5 : tie.Need-element-copy-out-if5 Inv-loop μ-loop
-element-copy-out-if5 c = search needs
-
-unsound-requires-2 : tie.Need-unsound-requires-2 Inv-loop μ-loop
-unsound-requires-2 c κs = search needs
 
 returns-2 : tie.Need-returns-2 Inv-loop μ-loop
 returns-2 c =
@@ -150,29 +96,11 @@ returns-2 c =
 cast-s : tie.Need-cast-s Inv-loop μ-loop
 cast-s c = omega (arith, turn-small (c .before .before .before .before))
 
-mul-s : tie.Need-mul-s Inv-loop μ-loop
-mul-s c = search needs
-
-element-write-s : tie.Need-element-write-s Inv-loop μ-loop
-element-write-s c = search needs
-
 cast-s-2 : tie.Need-cast-s-2 Inv-loop μ-loop
 cast-s-2 c = omega (arith, turn (c .before .before .before .before) .an-index)
 
-element-write-s-2 : tie.Need-element-write-s-2 Inv-loop μ-loop
-element-write-s-2 c = search needs
-
 cast-s-3 : tie.Need-cast-s-3 Inv-loop μ-loop
 cast-s-3 c = omega (arith, turn-small (c .before .before .before .before))
-
-mul-s-2 : tie.Need-mul-s-2 Inv-loop μ-loop
-mul-s-2 c = search needs
-
-element-write-s-3 : tie.Need-element-write-s-3 Inv-loop μ-loop
-element-write-s-3 c = search needs
-
-loop-less-4 : tie.Need-loop-less-4 Inv-loop μ-loop
-loop-less-4 c = search needs
 
 loop-again-4 : tie.Need-loop-again-4 Inv-loop μ-loop
 loop-again-4 c =
@@ -180,18 +108,6 @@ loop-again-4 c =
     let u = t .before .slot .given .0 .1 .0 in
     let z : u ≡ suc (u - 1) = omega arith in
     turn-own (turn t) (u - 1) z (omega arith) (λ h. omega (arith, ltb-false))
-
-sub-next-index-2 : tie.Need-sub-next-index-2 Inv-loop μ-loop
-sub-next-index-2 c = search needs
-
-mul-next-index-2 : tie.Need-mul-next-index-2 Inv-loop μ-loop
-mul-next-index-2 c = search needs
-
-next-index-requires-2 : tie.Need-next-index-requires-2 Inv-loop μ-loop
-next-index-requires-2 c κs = search needs
-
-ended-requires : tie.Need-ended-requires Inv-loop μ-loop
-ended-requires c κs = search needs
 
 returns-3 : tie.Need-returns-3 Inv-loop μ-loop
 returns-3 c =
@@ -204,46 +120,46 @@ scan-stage-spec =
     (tie.spec
     Inv-loop
     μ-loop
-    run-blocks-requires
+    (λ c κs. search needs)
     cast-none
-    begin-requires
+    (λ c κs. search needs)
     loop-holds
     weight-of-requires
-    add-at
+    (λ c. search needs)
     mul-if1
-    past-run-requires
-    loop-less
+    (λ c κs. search needs)
+    (λ c. search needs)
     loop-again
-    sub-next-index
-    mul-next-index
-    next-index-requires
-    enum-known-slot
-    enum-told
-    unsound-requires
+    (λ c. search needs)
+    (λ c. search needs)
+    (λ c κs. search needs)
+    (λ c. search needs)
+    (λ c. search needs)
+    (λ c κs. search needs)
     returns
     add-next
-    with-free-requires
-    loop-less-2
+    (λ c κs. search needs)
+    (λ c. search needs)
     loop-again-2
-    loop-less-3
+    (λ c. search needs)
     loop-again-3
-    sub-bit
-    mul-if5
-    element-copy-out-if5
-    unsound-requires-2
+    (λ c. search needs)
+    (λ c. search needs)
+    (λ c. search needs)
+    (λ c κs. search needs)
     returns-2
     cast-s
-    mul-s
-    element-write-s
+    (λ c. search needs)
+    (λ c. search needs)
     cast-s-2
-    element-write-s-2
+    (λ c. search needs)
     cast-s-3
-    mul-s-2
-    element-write-s-3
-    loop-less-4
+    (λ c. search needs)
+    (λ c. search needs)
+    (λ c. search needs)
     loop-again-4
-    sub-next-index-2
-    mul-next-index-2
-    next-index-requires-2
-    ended-requires
+    (λ c. search needs)
+    (λ c. search needs)
+    (λ c κs. search needs)
+    (λ c κs. search needs)
     returns-3)

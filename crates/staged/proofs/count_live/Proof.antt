@@ -19,17 +19,11 @@ Inv-loop cells len count top step full live₀ j₀ live j = (j ≤ count) × (l
 abbrev μ-loop : tie.MeasureT-loop
 μ-loop cells len count top step full live₀ j₀ live j = count - j
 
-run-blocks-requires : tie.Need-run-blocks-requires Inv-loop μ-loop
-run-blocks-requires c κs = search needs
-
 mul-full : tie.Need-mul-full Inv-loop μ-loop
 mul-full c =
     let a = c .before .before .args in
     let g : a .top ≤ 255 = omega arith in
     omega (arith, mul-le-mul {n₁ = a .len} {n₂ = 65536} (omega arith) g)
-
-loop-holds : tie.Need-loop-holds Inv-loop μ-loop
-loop-holds c = search needs
 
 -- in a turn the block lies within the cells
 inside : (c : tie.In-loop Inv-loop μ-loop) → c .before .loop .j * c .before .before .before .before .args .len + c .before .before .before .before .args .len ≤ length (c .before .before .before .before .args .cells .now)
@@ -50,26 +44,11 @@ mul-a c = omega (arith, inside c)
 add-e : tie.Need-add-e Inv-loop μ-loop
 add-e c = omega (arith, inside c)
 
-add-j : tie.Need-add-j Inv-loop μ-loop
-add-j c = search needs
-
-sub-sum-of : tie.Need-sub-sum-of Inv-loop μ-loop
-sub-sum-of c = search needs
-
-part-sum-of-start : tie.Need-part-sum-of-start Inv-loop μ-loop
-part-sum-of-start c = search needs
-
 part-sum-of-end : tie.Need-part-sum-of-end Inv-loop μ-loop
 part-sum-of-end c = omega (arith, inside c)
 
 sum-of-requires : tie.Need-sum-of-requires Inv-loop μ-loop
 sum-of-requires c κs = simp (length-take, length-drop) (omega arith)
-
-past-run-requires : tie.Need-past-run-requires Inv-loop μ-loop
-past-run-requires c κs = search needs
-
-loop-less : tie.Need-loop-less Inv-loop μ-loop
-loop-less c = search needs
 
 loop-again : tie.Need-loop-again Inv-loop μ-loop
 loop-again c =
@@ -79,12 +58,6 @@ loop-again c =
     let e = count-full (a .len * a .top) (a .len) j (a .cells .now) (weighs o _ (c .before .before .sum-of .ensures) ∙ c .before .if1 .taken) in
     let f = count-past (a .len) (a .top) (j + 1) (c .past-run .result) (a .cells .now) (o .before .before .before .before .pre .4) (c .past-run .ensures .0) (c .past-run .ensures .2) in
     (c .past-run .ensures .1, omega arith, omega arith)
-
-add-live : tie.Need-add-live Inv-loop μ-loop
-add-live c = search needs
-
-loop-less-2 : tie.Need-loop-less-2 Inv-loop μ-loop
-loop-less-2 c = search needs
 
 loop-again-2 : tie.Need-loop-again-2 Inv-loop μ-loop
 loop-again-2 c =
@@ -106,20 +79,20 @@ count-live-spec =
     (tie.spec
     Inv-loop
     μ-loop
-    run-blocks-requires
+    (λ c κs. search needs)
     mul-full
-    loop-holds
+    (λ c. search needs)
     mul-a
     add-e
-    add-j
-    sub-sum-of
-    part-sum-of-start
+    (λ c. search needs)
+    (λ c. search needs)
+    (λ c. search needs)
     part-sum-of-end
     sum-of-requires
-    past-run-requires
-    loop-less
+    (λ c κs. search needs)
+    (λ c. search needs)
     loop-again
-    add-live
-    loop-less-2
+    (λ c. search needs)
+    (λ c. search needs)
     loop-again-2
     returns)

@@ -39,9 +39,6 @@ module _ (c : tie.In-loop Inv-loop μ-loop) where
       let a = c .before .before .args in
       omega (arith, power-le (a .top) (c .before .loop .i + 1) (length (a .b .now)) (omega arith))
 
-add-base : tie.Need-add-base Inv-loop μ-loop
-add-base c = search needs
-
 loop-holds : tie.Need-loop-holds Inv-loop μ-loop
 loop-holds c =
     let z : suc (c .args .top) ^ 0 ≡ 1 = pow-zero (suc (c .args .top)) in
@@ -49,9 +46,6 @@ loop-holds c =
 
 mul-number : tie.Need-mul-number Inv-loop μ-loop
 mul-number c = omega (arith, more c, less c, small c)
-
-shared-slice-read-number : tie.Need-shared-slice-read-number Inv-loop μ-loop
-shared-slice-read-number c = search needs
 
 cast-number : tie.Need-cast-number Inv-loop μ-loop
 cast-number c = omega (arith, c .shared-slice-known .given (c .before .before .loop .i))
@@ -61,12 +55,6 @@ add-number c = omega (arith, more (c .before), less (c .before), small (c .befor
 
 mul-power : tie.Need-mul-power Inv-loop μ-loop
 mul-power c = omega (arith, power (c .before), small (c .before))
-
-add-i : tie.Need-add-i Inv-loop μ-loop
-add-i c = search needs
-
-loop-less : tie.Need-loop-less Inv-loop μ-loop
-loop-less c = search needs
 
 loop-again : tie.Need-loop-again Inv-loop μ-loop
 loop-again c = (omega arith, omega (arith, more (c .before)), omega (arith, power (c .before)))
@@ -103,15 +91,15 @@ index-of-spec =
     (tie.spec
     Inv-loop
     μ-loop
-    add-base
+    (λ c. search needs)
     loop-holds
     mul-number
-    shared-slice-read-number
+    (λ c. search needs)
     cast-number
     add-number
     mul-power
-    add-i
-    loop-less
+    (λ c. search needs)
+    (λ c. search needs)
     loop-again
     add-if1
     returns

@@ -29,29 +29,14 @@ inside c =
     let a = c .before .before .before .args in
     omega (arith, block-fits (a .batch) (a .batches - 1 - c .before .loop .left) (a .batches) (omega arith))
 
-sub-a : tie.Need-sub-a Inv-loop μ-loop
-sub-a c = search needs
-
-sub-a-2 : tie.Need-sub-a-2 Inv-loop μ-loop
-sub-a-2 c = search needs
-
 mul-a : tie.Need-mul-a Inv-loop μ-loop
 mul-a c = omega (arith, inside c)
 
 add-e : tie.Need-add-e Inv-loop μ-loop
 add-e c = omega (arith, inside c)
 
-sub-all-zero : tie.Need-sub-all-zero Inv-loop μ-loop
-sub-all-zero c = search needs
-
-part-all-zero-start : tie.Need-part-all-zero-start Inv-loop μ-loop
-part-all-zero-start c = search needs
-
 part-all-zero-end : tie.Need-part-all-zero-end Inv-loop μ-loop
 part-all-zero-end c = omega (arith, inside c)
-
-all-zero-requires : tie.Need-all-zero-requires Inv-loop μ-loop
-all-zero-requires c κs = search needs
 
 returns : tie.Need-returns Inv-loop μ-loop
 returns c =
@@ -59,12 +44,6 @@ returns c =
     let a = o .before .before .before .args in
     stage-is (a .batch) (a .batches) (a .index .now)
     (first-hit _ (o .before .loop .inv .1) (omega arith) (some-sum _ (rw (part-block (a .batch) (a .index .now) (a .batches - 1 - o .before .loop .left)) at (sym (c .before .all-zero .ensures) ∙ not-true _ (c .if1 .taken)))))
-
-add-left : tie.Need-add-left Inv-loop μ-loop
-add-left c = search needs
-
-loop-less : tie.Need-loop-less Inv-loop μ-loop
-loop-less c = search needs
 
 loop-again : tie.Need-loop-again Inv-loop μ-loop
 loop-again c =
@@ -87,16 +66,16 @@ last-batch-spec =
     Inv-loop
     μ-loop
     loop-holds
-    sub-a
-    sub-a-2
+    (λ c. search needs)
+    (λ c. search needs)
     mul-a
     add-e
-    sub-all-zero
-    part-all-zero-start
+    (λ c. search needs)
+    (λ c. search needs)
     part-all-zero-end
-    all-zero-requires
+    (λ c κs. search needs)
     returns
-    add-left
-    loop-less
+    (λ c. search needs)
+    (λ c. search needs)
     loop-again
     returns-2)

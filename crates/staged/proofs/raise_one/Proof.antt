@@ -20,20 +20,8 @@ abbrev μ-loop : tie.MeasureT-loop
 loop-holds : tie.Need-loop-holds Inv-loop μ-loop
 loop-holds c = (omega arith, refl, refl, below-none _)
 
-slice-read-if1 : tie.Need-slice-read-if1 Inv-loop μ-loop
-slice-read-if1 c = search needs
-
-slice-read-b : tie.Need-slice-read-b Inv-loop μ-loop
-slice-read-b c = search needs
-
 add-b : tie.Need-add-b Inv-loop μ-loop
 add-b c = omega arith
-
-slice-write-b : tie.Need-slice-write-b Inv-loop μ-loop
-slice-write-b c = search needs
-
-same-length : tie.Need-same-length Inv-loop μ-loop
-same-length c = search needs
 
 returns : tie.Need-returns Inv-loop μ-loop
 returns c =
@@ -43,17 +31,8 @@ returns c =
     ∙ sym (raise-here (c .before .before .before .before .before .args .top) i b (omega arith) (omega arith) (c .before .before .before .before .loop .inv .3))
     ∙ ap (raise (c .before .before .before .before .before .args .top)) (c .before .before .before .before .loop .inv .1)
 
-add-i : tie.Need-add-i Inv-loop μ-loop
-add-i c = search needs
-
-loop-less : tie.Need-loop-less Inv-loop μ-loop
-loop-less c = search needs
-
 loop-again : tie.Need-loop-again Inv-loop μ-loop
 loop-again c = (search needs, c .before .before .before .loop .inv .1, c .before .before .before .loop .inv .2, below-more _ _ (c .before .before .before .loop .inv .3) (omega arith))
-
-same-length-2 : tie.Need-same-length-2 Inv-loop μ-loop
-same-length-2 c = search needs
 
 returns-2 : tie.Need-returns-2 Inv-loop μ-loop
 returns-2 c =
@@ -68,14 +47,14 @@ raise-one-spec =
     Inv-loop
     μ-loop
     loop-holds
-    slice-read-if1
-    slice-read-b
+    (λ c. search needs)
+    (λ c. search needs)
     add-b
-    slice-write-b
-    same-length
+    (λ c. search needs)
+    (λ c. search needs)
     returns
-    add-i
-    loop-less
+    (λ c. search needs)
+    (λ c. search needs)
     loop-again
-    same-length-2
+    (λ c. search needs)
     returns-2)

@@ -18,29 +18,14 @@ Inv-loop b₀ top u base rest₀ i₀ b rest i = (i ≤ length b) × (length b �
 abbrev μ-loop : tie.MeasureT-loop
 μ-loop b₀ top u base rest₀ i₀ b rest i = i
 
-add-base : tie.Need-add-base Inv-loop μ-loop
-add-base c = search needs
-
 loop-holds : tie.Need-loop-holds Inv-loop μ-loop
 loop-holds c = (omega arith, search needs, search needs, digits-first (suc (c .args .top)) (c .args .u) (c .args .b .now))
-
-sub-i : tie.Need-sub-i Inv-loop μ-loop
-sub-i c = search needs
-
-rem-b : tie.Need-rem-b Inv-loop μ-loop
-rem-b c = search needs
 
 cast-b : tie.Need-cast-b Inv-loop μ-loop
 cast-b c = omega (arith, mod-lt (c .before .loop .rest) {m = c .before .before .args .top + 1} (omega arith))
 
 slice-write-b : tie.Need-slice-write-b Inv-loop μ-loop
 slice-write-b c = omega arith
-
-div-rest : tie.Need-div-rest Inv-loop μ-loop
-div-rest c = search needs
-
-loop-less : tie.Need-loop-less Inv-loop μ-loop
-loop-less c = search needs
 
 loop-again : tie.Need-loop-again Inv-loop μ-loop
 loop-again c =
@@ -53,9 +38,6 @@ loop-again c =
       rw (add-one (a .top)) (rest-lt (a .top) (l .i - 1) (l .rest) h),
       rw (add-one (a .top)) (l .inv .3 ∙ ap (λ n. digits (suc (a .top)) n (l .rest) ++ drop n (l .b)) e ∙ digits-turn (a .top) (l .i - 1) (l .rest) (l .b) (omega arith) h),
     )
-
-same-length : tie.Need-same-length Inv-loop μ-loop
-same-length c = search needs
 
 returns : tie.Need-returns Inv-loop μ-loop
 returns c =
@@ -70,14 +52,14 @@ set-index-spec =
     (tie.spec
     Inv-loop
     μ-loop
-    add-base
+    (λ c. search needs)
     loop-holds
-    sub-i
-    rem-b
+    (λ c. search needs)
+    (λ c. search needs)
     cast-b
     slice-write-b
-    div-rest
-    loop-less
+    (λ c. search needs)
+    (λ c. search needs)
     loop-again
-    same-length
+    (λ c. search needs)
     returns)

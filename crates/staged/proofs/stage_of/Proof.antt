@@ -11,16 +11,10 @@ use Rattle.staged.proofs.stage_of.Statement.{statement}
 use Rattle.staged.proofs.stage_of.Tie as tie
 use Prim.Native.Nat.{_*_}
 
-mul-e : tie.Need-mul-e
-mul-e c = search needs
-
 slice-aggregate-all-zero : tie.Need-slice-aggregate-all-zero
 slice-aggregate-all-zero c =
     let a = c .before .before .args in
     sym (length-take-le (a .batches * a .batch) (a .index .now) (omega arith))
-
-all-zero-requires : tie.Need-all-zero-requires
-all-zero-requires c κs = search needs
 
 returns : tie.Need-returns
 returns c =
@@ -28,19 +22,13 @@ returns c =
     let s = take (a .batches * a .batch) (a .index .now) in
     dark-stage (a .batch) (a .batches) (length s) (a .index .now) (test-true (same? s (replicate (length s) 0)) (c .before .all-zero .ensures) (c .if1 .taken))
 
-last-batch-requires : tie.Need-last-batch-requires
-last-batch-requires c κs = search needs
-
-returns-2 : tie.Need-returns-2
-returns-2 c = search needs
-
 pub stage-of-spec : {M : Type 1} → statement M
 stage-of-spec =
     tie.close
     (tie.spec
-    mul-e
+    (λ c. search needs)
     slice-aggregate-all-zero
-    all-zero-requires
+    (λ c κs. search needs)
     returns
-    last-batch-requires
-    returns-2)
+    (λ c κs. search needs)
+    (λ c. search needs))

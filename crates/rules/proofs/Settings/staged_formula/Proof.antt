@@ -7,9 +7,6 @@ use borrow.Author.Needs.{needs}
 use Rattle.rules.proofs.Settings.staged_formula.Statement.{statement}
 use Rattle.rules.proofs.Settings.staged_formula.Tie as tie
 
-mul-result : tie.Need-mul-result
-mul-result c = search needs
-
 mul-result-2 : tie.Need-mul-result-2
 mul-result-2 c =
     let a = c .before .before in
@@ -19,15 +16,6 @@ sub-result : tie.Need-sub-result
 sub-result c =
     let a = c .before .before .before in
     omega (arith, staged-bits (a .args .self) (a .pre) .0)
-
-mul-result-3 : tie.Need-mul-result-3
-mul-result-3 c = search needs
-
-add-result : tie.Need-add-result
-add-result c = search needs
-
-sub-result-2 : tie.Need-sub-result-2
-sub-result-2 c = search needs
 
 mul-result-4 : tie.Need-mul-result-4
 mul-result-4 c =
@@ -46,12 +34,12 @@ pub staged-formula-spec : {M : Type 1} → statement M
 staged-formula-spec =
     tie.close
     (tie.spec
-    mul-result
+    (λ c. search needs)
     mul-result-2
     sub-result
-    mul-result-3
-    add-result
-    sub-result-2
+    (λ c. search needs)
+    (λ c. search needs)
+    (λ c. search needs)
     mul-result-4
     sub-result-3
     returns)

@@ -7,9 +7,6 @@ use borrow.Author.Needs.{needs}
 use Rattle.rules.proofs.acceptance.accept_staged.Statement.{statement}
 use Rattle.rules.proofs.acceptance.accept_staged.Tie as tie
 
-stages-of-requires : tie.Need-stages-of-requires
-stages-of-requires c κs = search needs
-
 returns : tie.Need-returns
 returns c = sym (ruled-broken (staged-ruled _ _ _ _ _ _ refl refl refl) (λ a. omega arith))
 
@@ -63,7 +60,7 @@ pub accept-staged-spec : {M : Type 1} → statement M
 accept-staged-spec =
     tie.close
     (tie.spec
-    stages-of-requires
+    (λ c κs. search needs)
     returns
     returns-2
     returns-3

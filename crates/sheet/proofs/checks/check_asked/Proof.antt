@@ -5,18 +5,6 @@ use Rattle.sheet.specs.Meaning.{checkAsked}
 use Rattle.sheet.proofs.checks.check_asked.Statement.{statement}
 use Rattle.sheet.proofs.checks.check_asked.Tie as tie
 
-enum-known-asked : tie.Need-enum-known-asked
-enum-known-asked c = search needs
-
-check-output-requires : tie.Need-check-output-requires
-check-output-requires c κs = search needs
-
-enum-known-asked-2 : tie.Need-enum-known-asked-2
-enum-known-asked-2 c = search needs
-
-check-bit-requires : tie.Need-check-bit-requires
-check-bit-requires c κs = search needs
-
 returns : tie.Need-returns
 returns c = c .check-output .ensures ∙ ap (checkAsked _) (sym (c .before .before .asked .given .1))
 
@@ -27,9 +15,9 @@ pub check-asked-spec : {M : Type 1} → statement M
 check-asked-spec =
     tie.close
     (tie.spec
-    enum-known-asked
-    check-output-requires
-    enum-known-asked-2
-    check-bit-requires
+    (λ c. search needs)
+    (λ c κs. search needs)
+    (λ c. search needs)
+    (λ c κs. search needs)
     returns
     returns-2)

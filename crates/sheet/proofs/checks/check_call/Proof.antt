@@ -8,20 +8,8 @@ use Rattle.laws.specs.Calls.{checked-holds, ends-there, erase-checks, not-done,
 use Rattle.sheet.proofs.checks.check_call.Statement.{statement}
 use Rattle.sheet.proofs.checks.check_call.Tie as tie
 
-check-size-requires : tie.Need-check-size-requires
-check-size-requires c κs = search needs
-
-enum-told : tie.Need-enum-told
-enum-told c = search needs
-
 returns : tie.Need-returns
 returns c = ends-there (c .before .check-size .result) _ (c .before .check-size .ensures) (not-done _ (c .match .keys2))
-
-check-asked-requires : tie.Need-check-asked-requires
-check-asked-requires c κs = search needs
-
-enum-told-2 : tie.Need-enum-told-2
-enum-told-2 c = search needs
 
 returns-2 : tie.Need-returns-2
 returns-2 c =
@@ -36,9 +24,6 @@ cast-check-levels c =
     let o = s .before .before in
     omega (arith, genuine-common _ (checked-holds (erase-checks (o .args .settings) (o .args .sheet .now)) (sym (s .check-size .ensures) ∙ ap asCheck (t .enum-told .given .1)) .0) .top-most)
 
-check-levels-requires : tie.Need-check-levels-requires
-check-levels-requires c κs = search needs
-
 returns-3 : tie.Need-returns-3
 returns-3 c =
     let a = c .before .before in
@@ -50,12 +35,12 @@ pub check-call-spec : {M : Type 1} → statement M
 check-call-spec =
     tie.close
     (tie.spec
-    check-size-requires
-    enum-told
+    (λ c κs. search needs)
+    (λ c. search needs)
     returns
-    check-asked-requires
-    enum-told-2
+    (λ c κs. search needs)
+    (λ c. search needs)
     returns-2
     cast-check-levels
-    check-levels-requires
+    (λ c κs. search needs)
     returns-3)

@@ -11,12 +11,6 @@ use Rattle.sheet.proofs.kind0.change_plain.Tie as tie
 place-of-requires : tie.Need-place-of-requires
 place-of-requires c κs = let o = c .before in omega (arith, o .pre .2, o .pre .0 .bits-most)
 
-enum-known-j : tie.Need-enum-known-j
-enum-known-j c = search needs
-
-enum-told : tie.Need-enum-told
-enum-told c = search needs
-
 returns : tie.Need-returns
 returns c =
     let p = c .before .before in
@@ -31,18 +25,12 @@ stepped c =
     let o = p .before .before in
     plain-step (o .args .settings) (o .args .sheet .now) (o .pre .0) (o .pre .1) _ (o .pre .4) _ _ _ _ (o .pre .2) (o .pre .3 .blocks) (sym (p .place-of .ensures) ∙ c .before .j .given .1)
 
-cast-raise-block : tie.Need-cast-raise-block
-cast-raise-block c = search needs
-
 raise-block-requires : tie.Need-raise-block-requires
 raise-block-requires c κs =
     let k = c .before .before in
     let h = stepped k in
     let o = k .before .before .before .before .before in
     ((o .pre .0 .bits-least, h .place, o .pre .2, o .pre .0 .top-least, h .below), h .cells)
-
-same-length : tie.Need-same-length
-same-length c = search needs
 
 returns-2 : tie.Need-returns-2
 returns-2 c =
@@ -54,10 +42,10 @@ change-plain-spec =
     tie.close
     (tie.spec
     place-of-requires
-    enum-known-j
-    enum-told
+    (λ c. search needs)
+    (λ c. search needs)
     returns
-    cast-raise-block
+    (λ c. search needs)
     raise-block-requires
-    same-length
+    (λ c. search needs)
     returns-2)

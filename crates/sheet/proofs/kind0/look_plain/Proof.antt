@@ -26,15 +26,6 @@ part-all-zero-start c =
     let o = c .before .before .before in
     omega (arith, ap (λ (x : ℕ). x * o .args .settings .k) (o .pre .2 .blocks), o .pre .0 .inside, o .pre .1 .long)
 
-part-all-zero-end : tie.Need-part-all-zero-end
-part-all-zero-end c = search needs
-
-all-zero-requires : tie.Need-all-zero-requires
-all-zero-requires c κs = search needs
-
-no-look-requires : tie.Need-no-look-requires
-no-look-requires c κs = search needs
-
 returns : tie.Need-returns
 returns c =
     let z = c .before .before in
@@ -43,9 +34,6 @@ returns c =
     subst (LookOf r _) (sym (c .no-look .ensures)) (breaks refl (plain-unspare r (o .pre .0) _
     (λ s. spare-false _ (r .n) (o .args .sheet .now) (o .pre .1 .long) (z .all-zero .ensures) (not-true _ (c .before .if1 .taken))
     (subst (λ (x : ℕ). Spare x (r .n) (o .args .sheet .now)) (sym (ap (λ (x : ℕ). x * r .k) (o .pre .2 .blocks))) s))))
-
-cast-scan-blocks : tie.Need-cast-scan-blocks
-cast-scan-blocks c = search needs
 
 scan-blocks-requires : tie.Need-scan-blocks-requires
 scan-blocks-requires c κs =
@@ -70,10 +58,10 @@ look-plain-spec =
     mul-a
     sub-all-zero
     part-all-zero-start
-    part-all-zero-end
-    all-zero-requires
-    no-look-requires
+    (λ c. search needs)
+    (λ c κs. search needs)
+    (λ c κs. search needs)
     returns
-    cast-scan-blocks
+    (λ c. search needs)
     scan-blocks-requires
     returns-2)

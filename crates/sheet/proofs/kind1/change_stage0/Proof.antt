@@ -18,15 +18,6 @@ use Rattle.sheet.proofs.kind1.move_on.Reads as move-on-reads
 place-of-requires : tie.Need-place-of-requires
 place-of-requires c κs = let o = c .before in omega (arith, o .pre .2, staged-bits _ (o .pre .0) .1)
 
-enum-known-j : tie.Need-enum-known-j
-enum-known-j c = search needs
-
-enum-told : tie.Need-enum-told
-enum-told c = search needs
-
-sub-move-on : tie.Need-sub-move-on
-sub-move-on c = search needs
-
 move-on-requires : tie.Need-move-on-requires
 move-on-requires c κs =
     let t = c .before .before .before in
@@ -34,12 +25,6 @@ move-on-requires c κs =
     let o = p .before .before in
     let g = o .pre .3 in
     (o .pre .0, o .pre .1, zero-stuck _ (o .pre .0) _ (o .pre .1) (g .stage) _ refl _ (g .blocks) (ap asCheck (g .passed)) _ _ (o .pre .2) (o .pre .4 .blocks) (sym (p .place-of .ensures) ∙ t .enum-told .given .1), o .pre .4)
-
-same-length : tie.Need-same-length
-same-length c = search needs
-
-returns : tie.Need-returns
-returns c = search needs
 
 -- the place found is a step of the bit's cycle in its block
 stepped : (c : lts.After-j (place-of-reads.Asked, place-of-reads.Learnt, move-on-reads.Asked, move-on-reads.Learnt, raise-block-reads.Asked, raise-block-reads.Learnt) reads.Pre reads.Post)
@@ -51,18 +36,12 @@ stepped c =
     let g = o .pre .3 in
     zero-step _ (o .pre .0) _ (o .pre .1) (g .stage) _ refl _ (g .blocks) (ap asCheck (g .passed)) _ _ _ _ (o .pre .2) (o .pre .4 .blocks) (sym (p .place-of .ensures) ∙ c .j .given .1)
 
-cast-raise-block : tie.Need-cast-raise-block
-cast-raise-block c = search needs
-
 raise-block-requires : tie.Need-raise-block-requires
 raise-block-requires c κs =
     let j = c .before .before .before in
     let o = j .before .before .before .before in
     let h = stepped j in
     ((omega (arith, staged-bits _ (o .pre .0) .0), h .place, o .pre .2, o .pre .0 .top-least, h .below), h .cells)
-
-same-length-2 : tie.Need-same-length-2
-same-length-2 c = search needs
 
 returns-2 : tie.Need-returns-2
 returns-2 c =
@@ -74,13 +53,13 @@ change-stage0-spec =
     tie.close
     (tie.spec
     place-of-requires
-    enum-known-j
-    enum-told
-    sub-move-on
+    (λ c. search needs)
+    (λ c. search needs)
+    (λ c. search needs)
     move-on-requires
-    same-length
-    returns
-    cast-raise-block
+    (λ c. search needs)
+    (λ c. search needs)
+    (λ c. search needs)
     raise-block-requires
-    same-length-2
+    (λ c. search needs)
     returns-2)

@@ -7,23 +7,11 @@ use borrow.Author.Needs.{needs}
 use Rattle.sheet.proofs.kind1.later_left.Statement.{statement}
 use Rattle.sheet.proofs.kind1.later_left.Tie as tie
 
-block-cells-requires : tie.Need-block-cells-requires
-block-cells-requires c κs = search needs
-
-parity-length-requires : tie.Need-parity-length-requires
-parity-length-requires c κs = search needs
-
-parity-count-requires : tie.Need-parity-count-requires
-parity-count-requires c κs = search needs
-
 slice-aggregate-later-stage : tie.Need-slice-aggregate-later-stage
 slice-aggregate-later-stage c =
     let b = c .before .before .before in
     let o = b .before .before in
     sym (length-take-le _ (o .args .sheet .now) (cells-in _ (o .pre .0) _ (o .pre .1) _ (b .block-cells .ensures)))
-
-cast-later-stage : tie.Need-cast-later-stage
-cast-later-stage c = search needs
 
 later-stage-requires : tie.Need-later-stage-requires
 later-stage-requires c κs =
@@ -43,10 +31,10 @@ pub later-left-spec : {M : Type 1} → statement M
 later-left-spec =
     tie.close
     (tie.spec
-    block-cells-requires
-    parity-length-requires
-    parity-count-requires
+    (λ c κs. search needs)
+    (λ c κs. search needs)
+    (λ c κs. search needs)
     slice-aggregate-later-stage
-    cast-later-stage
+    (λ c. search needs)
     later-stage-requires
     returns)

@@ -10,14 +10,8 @@ use borrow.Author.Needs.{needs}
 use Rattle.sheet.proofs.kind1.look_stage.Statement.{statement}
 use Rattle.sheet.proofs.kind1.look_stage.Tie as tie
 
-block-cells-requires : tie.Need-block-cells-requires
-block-cells-requires c κs = search needs
-
 batch-at-requires : tie.Need-batch-at-requires
 batch-at-requires c κs = let o = c .before .before in (o .pre .0, stage-below _ (o .pre .0) _ _ (o .pre .2 .stage), o .pre .3 .genuine)
-
-batch-cells-requires : tie.Need-batch-cells-requires
-batch-cells-requires c κs = search needs
 
 add-end : tie.Need-add-end
 add-end c =
@@ -30,9 +24,6 @@ parity-length-requires c κs = let o = c .before .before .before .before in omeg
 parity-count-requires : tie.Need-parity-count-requires
 parity-count-requires c κs = let o = c .before .before .before .before .before in (o .pre .0, omega (arith, stage-below _ (o .pre .0) _ _ (o .pre .2 .stage)), o .pre .3)
 
-sub-scan-stage : tie.Need-sub-scan-stage
-sub-scan-stage c = search needs
-
 sub-scan-stage-2 : tie.Need-sub-scan-stage-2
 sub-scan-stage-2 c = let o = c .before .before .before .before .before .before .before in omega (arith, stage-below _ (o .pre .0) _ _ (o .pre .2 .stage))
 
@@ -42,20 +33,11 @@ slice-aggregate-scan-stage c =
     let o = k .before .before in
     sym (length-take-le _ (o .args .sheet .now) (cells-in _ (o .pre .0) _ (o .pre .1) _ (k .block-cells .ensures)))
 
-sub-scan-stage-3 : tie.Need-sub-scan-stage-3
-sub-scan-stage-3 c = search needs
-
-part-scan-stage-start : tie.Need-part-scan-stage-start
-part-scan-stage-start c = search needs
-
 part-scan-stage-end : tie.Need-part-scan-stage-end
 part-scan-stage-end c =
     let b = c .before .before .before .before in
     let o = b .before .before .before .before in
     omega (arith, batch-inside _ (o .pre .0) _ (stage-below _ (o .pre .0) _ _ (o .pre .2 .stage)), o .pre .1 .long, b .before .batch-at .ensures, b .batch-cells .ensures)
-
-cast-scan-stage : tie.Need-cast-scan-stage
-cast-scan-stage c = search needs
 
 scan-stage-requires : tie.Need-scan-stage-requires
 scan-stage-requires c κs =
@@ -81,18 +63,18 @@ pub look-stage-spec : {M : Type 1} → statement M
 look-stage-spec =
     tie.close
     (tie.spec
-    block-cells-requires
+    (λ c κs. search needs)
     batch-at-requires
-    batch-cells-requires
+    (λ c κs. search needs)
     add-end
     parity-length-requires
     parity-count-requires
-    sub-scan-stage
+    (λ c. search needs)
     sub-scan-stage-2
     slice-aggregate-scan-stage
-    sub-scan-stage-3
-    part-scan-stage-start
+    (λ c. search needs)
+    (λ c. search needs)
     part-scan-stage-end
-    cast-scan-stage
+    (λ c. search needs)
     scan-stage-requires
     returns)

@@ -6,14 +6,8 @@ use borrow.Author.Needs.{needs}
 use Rattle.sheet.proofs.kind1.look_stage0.Statement.{statement}
 use Rattle.sheet.proofs.kind1.look_stage0.Tie as tie
 
-block-cells-requires : tie.Need-block-cells-requires
-block-cells-requires c κs = search needs
-
 slice-aggregate-scan-blocks : tie.Need-slice-aggregate-scan-blocks
 slice-aggregate-scan-blocks c = let o = c .before .before .before in sym (length-take-le _ (o .args .sheet .now) (cells-in _ (o .pre .0) _ (o .pre .1) _ (c .before .block-cells .ensures)))
-
-cast-scan-blocks : tie.Need-cast-scan-blocks
-cast-scan-blocks c = search needs
 
 scan-blocks-requires : tie.Need-scan-blocks-requires
 scan-blocks-requires c κs =
@@ -32,8 +26,8 @@ pub look-stage0-spec : {M : Type 1} → statement M
 look-stage0-spec =
     tie.close
     (tie.spec
-    block-cells-requires
+    (λ c κs. search needs)
     slice-aggregate-scan-blocks
-    cast-scan-blocks
+    (λ c. search needs)
     scan-blocks-requires
     returns)

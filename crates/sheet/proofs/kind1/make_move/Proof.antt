@@ -10,27 +10,12 @@ use Rattle.sheet.proofs.kind1.make_move.Tie as tie
 values-after-requires : tie.Need-values-after-requires
 values-after-requires c κs = omega (arith, staged-bits _ (c .before .pre .0) .1)
 
-batch-at-requires : tie.Need-batch-at-requires
-batch-at-requires c κs = search needs
-
-parity-length-requires : tie.Need-parity-length-requires
-parity-length-requires c κs = search needs
-
-parity-count-requires : tie.Need-parity-count-requires
-parity-count-requires c κs = search needs
-
-cast-move-to : tie.Need-cast-move-to
-cast-move-to c = search needs
-
 move-to-requires : tie.Need-move-to-requires
 move-to-requires c κs =
     let n = c .before .before in
     let a = n .before .before in
     let o = a .before .before .before in
     rw (o .pre .3 .width) (move-roomy _ (o .pre .0) _ (o .pre .1) _ _ _ _ (o .pre .2) (a .batch-at .ensures) (n .before .parity-length .ensures) (n .parity-count .ensures))
-
-same-length : tie.Need-same-length
-same-length c = search needs
 
 returns : tie.Need-returns
 returns c =
@@ -45,10 +30,10 @@ make-move-spec =
     tie.close
     (tie.spec
     values-after-requires
-    batch-at-requires
-    parity-length-requires
-    parity-count-requires
-    cast-move-to
+    (λ c κs. search needs)
+    (λ c κs. search needs)
+    (λ c κs. search needs)
+    (λ c. search needs)
     move-to-requires
-    same-length
+    (λ c. search needs)
     returns)

@@ -6,18 +6,6 @@ use borrow.Author.Needs.{needs}
 use Rattle.sheet.proofs.kind1.move_on.Statement.{statement}
 use Rattle.sheet.proofs.kind1.move_on.Tie as tie
 
-later-left-requires : tie.Need-later-left-requires
-later-left-requires c κs = search needs
-
-enum-known-to : tie.Need-enum-known-to
-enum-known-to c = search needs
-
-enum-told : tie.Need-enum-told
-enum-told c = search needs
-
-same-length : tie.Need-same-length
-same-length c = search needs
-
 returns : tie.Need-returns
 returns c =
     let l = c .before .before in
@@ -31,9 +19,6 @@ make-move-requires c κs =
     let o = l .before .before .before in
     (o .pre .0, o .pre .1, stuck-fits _ (o .pre .0) _ (o .pre .1) _ _ _ (o .pre .2) _ (sym (l .later-left .ensures) ∙ ap asLater (t .to .given .1)), o .pre .3)
 
-same-length-2 : tie.Need-same-length-2
-same-length-2 c = search needs
-
 returns-2 : tie.Need-returns-2
 returns-2 c =
     let m = c .before .before in
@@ -46,11 +31,11 @@ pub move-on-spec : {M : Type 1} → statement M
 move-on-spec =
     tie.close
     (tie.spec
-    later-left-requires
-    enum-known-to
-    enum-told
-    same-length
+    (λ c κs. search needs)
+    (λ c. search needs)
+    (λ c. search needs)
+    (λ c. search needs)
     returns
     make-move-requires
-    same-length-2
+    (λ c. search needs)
     returns-2)

@@ -6,23 +6,11 @@ use borrow.Author.Needs.{needs}
 use Rattle.sheet.proofs.kind1.stage_left.Statement.{statement}
 use Rattle.sheet.proofs.kind1.stage_left.Tie as tie
 
-block-cells-requires : tie.Need-block-cells-requires
-block-cells-requires c κs = search needs
-
 sub-stage-of : tie.Need-sub-stage-of
 sub-stage-of c = let o = c .before .before in omega (arith, cells-in _ (o .pre .0) _ (o .pre .1) _ (c .block-cells .ensures))
 
 part-stage-of-start : tie.Need-part-stage-of-start
 part-stage-of-start c = let o = c .before .before in omega (arith, cells-in _ (o .pre .0) _ (o .pre .1) _ (c .block-cells .ensures))
-
-part-stage-of-end : tie.Need-part-stage-of-end
-part-stage-of-end c = search needs
-
-batch-cells-requires : tie.Need-batch-cells-requires
-batch-cells-requires c κs = search needs
-
-sub-stage-of-2 : tie.Need-sub-stage-of-2
-sub-stage-of-2 c = search needs
 
 stage-of-requires : tie.Need-stage-of-requires
 stage-of-requires c κs =
@@ -40,11 +28,11 @@ pub stage-left-spec : {M : Type 1} → statement M
 stage-left-spec =
     tie.close
     (tie.spec
-    block-cells-requires
+    (λ c κs. search needs)
     sub-stage-of
     part-stage-of-start
-    part-stage-of-end
-    batch-cells-requires
-    sub-stage-of-2
+    (λ c. search needs)
+    (λ c κs. search needs)
+    (λ c. search needs)
     stage-of-requires
     returns)

@@ -17,33 +17,6 @@ Inv-loop k bit weights values₀ i₀ values i =
 abbrev μ-loop : tie.MeasureT-loop
 μ-loop k bit weights values₀ i₀ values i = k - i
 
-loop-holds : tie.Need-loop-holds Inv-loop μ-loop
-loop-holds c = search needs
-
-mul-value-after : tie.Need-mul-value-after Inv-loop μ-loop
-mul-value-after c = search needs
-
-array-read-value-after : tie.Need-array-read-value-after Inv-loop μ-loop
-array-read-value-after c = search needs
-
-cast-value-after : tie.Need-cast-value-after Inv-loop μ-loop
-cast-value-after c = search needs
-
-value-after-requires : tie.Need-value-after-requires Inv-loop μ-loop
-value-after-requires c κs = search needs
-
-mul-values : tie.Need-mul-values Inv-loop μ-loop
-mul-values c = search needs
-
-array-write-values : tie.Need-array-write-values Inv-loop μ-loop
-array-write-values c = search needs
-
-add-i : tie.Need-add-i Inv-loop μ-loop
-add-i c = search needs
-
-loop-less : tie.Need-loop-less Inv-loop μ-loop
-loop-less c = search needs
-
 loop-again : tie.Need-loop-again Inv-loop μ-loop
 loop-again c =
     let l = c .before .before .loop in
@@ -63,14 +36,14 @@ values-after-spec =
     (tie.spec
     Inv-loop
     μ-loop
-    loop-holds
-    mul-value-after
-    array-read-value-after
-    cast-value-after
-    value-after-requires
-    mul-values
-    array-write-values
-    add-i
-    loop-less
+    (λ c. search needs)
+    (λ c. search needs)
+    (λ c. search needs)
+    (λ c. search needs)
+    (λ c κs. search needs)
+    (λ c. search needs)
+    (λ c. search needs)
+    (λ c. search needs)
+    (λ c. search needs)
     loop-again
     returns)

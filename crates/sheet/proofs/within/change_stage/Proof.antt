@@ -41,9 +41,6 @@ inside c x l =
     let g = o .pre .3 in
     omega (arith, index-in _ (o .pre .0) _ (stage-below _ (o .pre .0) _ _ (g .stage .stage)) x l, o .pre .0 .cells-most, g .passed .batch, ap (λ (y : ℕ). x * y) (o .pre .4 .width))
 
-enum-known-block : tie.Need-enum-known-block
-enum-known-block c = search needs
-
 mul-index : tie.Need-mul-index
 mul-index c =
     let n = c .before .before .before in
@@ -64,15 +61,6 @@ raise-own-requires c κs =
     let g = o .pre .3 in
     let i = ap₂ (λ (x y : ℕ). x + b .block .given .0 .1 .0 * y) (g .passed .batch) (o .pre .4 .width) in
     (o .pre .0, o .pre .1, g .stage, stage-keeps _ (o .pre .0) _ (o .pre .1) (o .args .bit) _ (g .stage) (g .passed), o .pre .2, record { slot = _; index = i; place = placed n (b .block .given .1) }, o .pre .4)
-
-same-length : tie.Need-same-length
-same-length c = search needs
-
-returns : tie.Need-returns
-returns c = search needs
-
-enum-known-block-2 : tie.Need-enum-known-block-2
-enum-known-block-2 c = search needs
 
 mul-index-2 : tie.Need-mul-index-2
 mul-index-2 c =
@@ -95,15 +83,6 @@ take-free-requires c κs =
     let i = ap₂ (λ (x y : ℕ). x + b .block2 .given .0 .1 .0 * y) (g .passed .batch) (o .pre .4 .width) in
     (o .pre .0, o .pre .1, g .stage, stage-keeps _ (o .pre .0) _ (o .pre .1) (o .args .bit) _ (g .stage) (g .passed), o .pre .2, record { slot = _; index = i; place = placed n (b .block2 .given .1) }, o .pre .4)
 
-same-length-2 : tie.Need-same-length-2
-same-length-2 c = search needs
-
-returns-2 : tie.Need-returns-2
-returns-2 c = search needs
-
-enum-told : tie.Need-enum-told
-enum-told c = search needs
-
 move-on-requires : tie.Need-move-on-requires
 move-on-requires c κs =
     let t = c .before .before in
@@ -112,31 +91,25 @@ move-on-requires c κs =
     let g = o .pre .3 in
     (o .pre .0, o .pre .1, goes-on _ (o .pre .0) _ (o .pre .1) _ _ (g .stage) (g .passed) (placed n (t .enum-told .given .1)), o .pre .4)
 
-same-length-3 : tie.Need-same-length-3
-same-length-3 c = search needs
-
-returns-3 : tie.Need-returns-3
-returns-3 c = search needs
-
 pub change-stage-spec : {M : Type 1} → statement M
 change-stage-spec =
     tie.close
     (tie.spec
     parity-count-requires
     place-in-requires
-    enum-known-block
+    (λ c. search needs)
     mul-index
     add-index
     raise-own-requires
-    same-length
-    returns
-    enum-known-block-2
+    (λ c. search needs)
+    (λ c. search needs)
+    (λ c. search needs)
     mul-index-2
     add-index-2
     take-free-requires
-    same-length-2
-    returns-2
-    enum-told
+    (λ c. search needs)
+    (λ c. search needs)
+    (λ c. search needs)
     move-on-requires
-    same-length-3
-    returns-3)
+    (λ c. search needs)
+    (λ c. search needs))

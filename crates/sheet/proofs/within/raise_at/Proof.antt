@@ -7,12 +7,6 @@ use borrow.Author.Needs.{needs}
 use Rattle.sheet.proofs.within.raise_at.Statement.{statement}
 use Rattle.sheet.proofs.within.raise_at.Tie as tie
 
-block-cells-requires : tie.Need-block-cells-requires
-block-cells-requires c κs = search needs
-
-parity-length-requires : tie.Need-parity-length-requires
-parity-length-requires c κs = search needs
-
 slice-relend-prefix-raise-parity : tie.Need-slice-relend-prefix-raise-parity
 slice-relend-prefix-raise-parity c =
     let b = c .before in
@@ -25,18 +19,12 @@ slice-aggregate-raise-parity c =
     let o = b .before .before in
     sym (length-take-le _ (o .args .sheet .now) (cells-in _ (o .pre .0) _ (o .pre .1) _ (b .block-cells .ensures)))
 
-cast-raise-parity : tie.Need-cast-raise-parity
-cast-raise-parity c = search needs
-
 raise-parity-requires : tie.Need-raise-parity-requires
 raise-parity-requires c κs =
     let n = c .before .before in
     let b = n .before in
     let o = b .before .before in
     raise-asks _ (o .pre .0) _ (o .pre .1) _ (o .pre .2) _ (o .pre .3) _ _ (b .block-cells .ensures) (n .parity-length .ensures)
-
-same-length : tie.Need-same-length
-same-length c = search needs
 
 returns : tie.Need-returns
 returns c =
@@ -50,11 +38,11 @@ pub raise-at-spec : {M : Type 1} → statement M
 raise-at-spec =
     tie.close
     (tie.spec
-    block-cells-requires
-    parity-length-requires
+    (λ c κs. search needs)
+    (λ c κs. search needs)
     slice-relend-prefix-raise-parity
     slice-aggregate-raise-parity
-    cast-raise-parity
+    (λ c. search needs)
     raise-parity-requires
-    same-length
+    (λ c. search needs)
     returns)

@@ -20,9 +20,6 @@ mul-full c = let o = c .before .before .before .before .before .before .before i
 add-if1 : tie.Need-add-if1
 add-if1 c = let o = c .before .before .before .before .before .before .before .before in omega (arith, full-most _ (o .pre .0) _ (below _ (o .pre .0) _ (o .pre .1) (o .args .bit) _ (o .pre .2)) _ refl, own-weight _ (o .pre .0) _ (o .pre .1) _ _ (o .pre .2) _ _ _ (o .pre .5 .place))
 
-same-length : tie.Need-same-length
-same-length c = search needs
-
 returns : tie.Need-returns
 returns c =
     let n = c .before .before .before in
@@ -36,12 +33,6 @@ fill-index-requires c κs =
     let o = y .before .before .before in
     let l = below _ (o .pre .0) _ (o .pre .1) (o .args .bit) _ (o .pre .2) in
     (o .pre .0, subst (Levelled _) (sym (y .raise-at .ensures)) (raised-levelled _ (o .pre .0) _ (o .pre .1) _ l _ (own-block _ (o .pre .0) _ (o .pre .1) _ _ (o .pre .2) _ _ _ (o .pre .5 .place))), omega (arith, index-in _ (o .pre .0) _ l _ (own-slot _ (o .pre .0) _ (o .pre .1) _ _ (o .pre .2) _ _ _ (o .pre .5 .place)), o .pre .5 .index), o .pre .6)
-
-add-t15 : tie.Need-add-t15
-add-t15 c = search needs
-
-same-length-2 : tie.Need-same-length-2
-same-length-2 c = search needs
 
 returns-2 : tie.Need-returns-2
 returns-2 c =
@@ -60,9 +51,9 @@ raise-own-spec =
     parity-length-requires
     mul-full
     add-if1
-    same-length
+    (λ c. search needs)
     returns
     fill-index-requires
-    add-t15
-    same-length-2
+    (λ c. search needs)
+    (λ c. search needs)
     returns-2)

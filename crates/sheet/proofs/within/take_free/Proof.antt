@@ -7,16 +7,10 @@ use borrow.Author.Needs.{needs}
 use Rattle.sheet.proofs.within.take_free.Statement.{statement}
 use Rattle.sheet.proofs.within.take_free.Tie as tie
 
-add-name-index : tie.Need-add-name-index
-add-name-index c = search needs
-
 name-index-requires : tie.Need-name-index-requires
 name-index-requires c κs =
     let o = c .before .before .before .before in
     (o .pre .0, o .pre .1, omega (arith, index-in _ (o .pre .0) _ (below _ (o .pre .0) _ (o .pre .1) (o .args .bit) _ (o .pre .2)) _ (free-slot _ (o .pre .0) _ (o .pre .1) _ _ (o .pre .2) _ _ _ (o .pre .5 .place)), o .pre .5 .index), omega (arith, o .pre .0 .enough, o .pre .4), rw (o .pre .5 .index) (free-dark _ (o .pre .0) _ (o .pre .1) _ _ (o .pre .2) _ _ _ (o .pre .5 .place)), o .pre .6)
-
-same-length : tie.Need-same-length
-same-length c = search needs
 
 returns : tie.Need-returns
 returns c =
@@ -27,9 +21,6 @@ returns c =
 
 raise-at-requires : tie.Need-raise-at-requires
 raise-at-requires c κs = let o = c .before .before .before .before in (o .pre .0, o .pre .1, below _ (o .pre .0) _ (o .pre .1) (o .args .bit) _ (o .pre .2), free-block _ (o .pre .0) _ (o .pre .1) _ _ (o .pre .2) _ _ _ (o .pre .5 .place), o .pre .6)
-
-add-name-index-2 : tie.Need-add-name-index-2
-add-name-index-2 c = search needs
 
 name-index-requires-2 : tie.Need-name-index-requires-2
 name-index-requires-2 c κs =
@@ -44,12 +35,6 @@ name-index-requires-2 c κs =
       o .pre .6,
     )
 
-add-t19 : tie.Need-add-t19
-add-t19 c = search needs
-
-same-length-2 : tie.Need-same-length-2
-same-length-2 c = search needs
-
 returns-2 : tie.Need-returns-2
 returns-2 c =
     let n = c .before .before in
@@ -62,13 +47,13 @@ pub take-free-spec : {M : Type 1} → statement M
 take-free-spec =
     tie.close
     (tie.spec
-    add-name-index
+    (λ c. search needs)
     name-index-requires
-    same-length
+    (λ c. search needs)
     returns
     raise-at-requires
-    add-name-index-2
+    (λ c. search needs)
     name-index-requires-2
-    add-t19
-    same-length-2
+    (λ c. search needs)
+    (λ c. search needs)
     returns-2)
