@@ -1,4 +1,4 @@
-//! Endurance: how many changes an erased sheet accepts until the first Erase, and what limits it.
+//! Endurance: how many changes an erased sheet accepts until the first Erase.
 
 use crate::adversary;
 use crate::bits::Bits;
@@ -20,13 +20,6 @@ const SHAPES: [[usize; 3]; 7] = [
     [64, 15, 16_384],
     [2, 255, 16_384],
 ];
-
-/// The most changes that any code can guarantee for k bits on n cells, by the paper's inequality
-/// (1): whatever the code, some run leaves L min(n, k - 1) / 2 of the n L levels without a change.
-pub fn limit(settings: &Settings) -> u64 {
-    let Settings { k, top, n, .. } = *settings;
-    (n * top - (top * n.min(k - 1)).div_ceil(2)) as u64
-}
 
 /// Changes accepted by the library from an erased sheet until the first Erase.
 fn accepted(settings: &Settings, bits: Bits) -> u64 {

@@ -1,12 +1,18 @@
-//! What was measured of endurance: held to the guarantee, as a file and as a table.
+//! What was measured of endurance, held to guarantee and limit: as a file and as a table.
 
 use crate::compiled::Compiled;
-use crate::endurance::limit;
 use crate::places::{kind_name, settings};
 use crate::table::{grouped, Table};
 use second::Settings;
 use std::fmt;
 use std::str::FromStr;
+
+/// The most changes that any code can guarantee for k bits on n cells, by the paper's inequality
+/// (1): whatever the code, some run leaves L min(n, k - 1) / 2 of the n L levels without a change.
+fn limit(settings: &Settings) -> u64 {
+    let Settings { k, top, n, .. } = *settings;
+    (n * top - (top * n.min(k - 1)).div_ceil(2)) as u64
+}
 
 /// What was measured of one settings, all as numbers of changes.
 #[derive(Clone, Debug, PartialEq, Eq)]

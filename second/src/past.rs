@@ -6,12 +6,14 @@
 //! the run is made, one block finished before the next is begun, up to a block that no change begins.
 //! What one block is, is told as a reading tells it.
 
-pub mod command;
 pub mod later;
 mod search;
+pub mod told;
 
+use crate::calls::check_shape_and_length;
+use crate::levels::check_levels;
 use crate::plain::Block;
-use crate::{change, check_levels, check_shape_and_length, erase, sum, Answer, Settings};
+use crate::{change, erase, sum, Answer, Settings};
 use std::fmt::{self, Display, Formatter};
 use std::str::FromStr;
 

@@ -4,9 +4,10 @@
 mod common;
 
 use common::{accept, bits, cells, group_tells, has_a_past, sum};
+use second::command::said;
 use second::compare::past::{answered, printed, settings, table, Counts};
 use second::compare::refused::{self, assignments, Refused};
-use second::past::{command, later, length, replay, run_to, Turns};
+use second::past::{later, length, replay, run_to, told, Turns};
 use second::random::Random;
 use second::sheets::{accepted, every, some_settings, Damage};
 use second::{read, Answer, Flaw, Settings};
@@ -65,7 +66,7 @@ fn flaws_show() {
     for flaw in READINGS.into_iter().chain([Flaw::SecondEmpty]) {
         let counts = flaw.during(|| Counts::of(&settings));
         println!("{flaw:?}: {}", counts.unwrap_err());
-        let table = flaw.during(|| command::said(&[String::from("--table")]));
+        let table = flaw.during(|| said(&[String::from("--table")]));
         assert_eq!(table.status, 2, "{flaw:?}");
         group_tells("past", flaw);
     }
@@ -127,7 +128,7 @@ fn larger_sheets() {
             let sheet = accepted(&mut random, &settings, 0);
             let run = run_to(&settings, &sheet).unwrap();
             assert_eq!(length(&run), sum(&sheet));
-            let printed = command::plain(k as u8, top as u8, &sheet).text;
+            let printed = told::plain(k as u8, top as u8, &sheet).text;
             let lines: Vec<Turns> = printed.lines().skip(1).map(parsed).collect();
             assert_eq!(lines, run);
             assert_eq!(replay(&settings, &run), Ok(sheet), "{asked:?}");
@@ -176,7 +177,7 @@ fn a_run() {
     assert_eq!(replay(&settings, &run), Ok(sheet));
     let once_more = [&run[..], &[Turns { bit: 2, times: 1 }]].concat();
     assert_eq!(replay(&settings, &once_more), Err(Answer::Erase));
-    let printed = command::plain(4, 2, &replay(&settings, &run).unwrap());
+    let printed = told::plain(4, 2, &replay(&settings, &run).unwrap());
     let lines = [
         "31 changes from an erased sheet end in it:",
         "bit 0, 8 times",

@@ -3,8 +3,9 @@
 mod common;
 
 use common::{accept, bits, cells, checked_change, has_a_past, sum};
+use second::command::said;
 use second::compare::{past, refused};
-use second::past::{command::said, later};
+use second::past::later;
 use second::{read, Answer, Settings};
 
 const PAGE: &str = concat!(env!("CARGO_MANIFEST_DIR"), "/../docs/RULES.md");

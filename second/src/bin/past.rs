@@ -16,7 +16,7 @@
 //! nothing is told: of a staged sheet, for which nothing is claimed, of settings that no sheet has,
 //! for wrong words, where the table's counts do not agree, and where nothing can be written.
 
-use second::past::command::said;
+use second::command::said;
 use std::io::{stderr, stdout, Write};
 use std::process::ExitCode;
 

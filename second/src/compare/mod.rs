@@ -39,13 +39,15 @@ pub mod refused;
 mod runs;
 mod served;
 mod settings;
+mod size;
 mod tiny;
 
 pub use case::{Call, Case};
 pub use comparison::{Comparison, Difference, Tally};
 pub use impostor::Impostor;
 pub use library::{Library, Model, Reply};
-pub use plan::{Group, Plan, Size};
+pub use plan::{Group, Plan};
 pub use programs::{compare_programs, Compiled, FileTally, Program};
 pub use records::{example, some_file};
 pub use served::Served;
+pub use size::Size;

@@ -7,7 +7,7 @@
 
 use super::case::{Call, Case};
 use super::comparison::Comparison;
-use super::plan::Size;
+use super::size::Size;
 use crate::sheets::{every, laid, State};
 use crate::Settings;
 

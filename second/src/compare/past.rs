@@ -7,10 +7,10 @@
 
 use super::case::{Call, Case};
 use super::comparison::Comparison;
-use super::plan::Size;
 use super::refused::{self, reached};
+use super::size::Size;
 use super::tiny::PLAIN;
-use crate::past::command::plain;
+use crate::past::told::plain;
 use crate::past::{bits, length, replay, run_to, Turns};
 use crate::sheets::every;
 use crate::table::{row, total};

@@ -4,19 +4,9 @@ use super::comparison::{Comparison, Difference, Tally};
 use super::impostor::Impostor;
 use super::library::{Library, Model};
 use super::programs::{compare_programs, show, Program};
+use super::size::Size;
 use super::{calls, forged, moves, numbers, packed, past, refusals, runs, settings, tiny};
 use crate::Flaw;
-
-/// How much is run.
-#[derive(Clone, Copy, Debug, PartialEq, Eq)]
-pub enum Size {
-    /// A part of each group, for the self-check and for slow tools.
-    Light,
-    /// All groups.
-    Default,
-    /// All groups, and the longest runs.
-    Long,
-}
 
 /// What one run does.
 #[derive(Clone, Copy, Debug)]

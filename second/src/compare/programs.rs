@@ -1,8 +1,8 @@
 //! The drive program's whole output on files of records, byte by byte.
 
 use super::library::Model;
-use super::plan::Size;
 use super::records::{fixed_files, long_run, some_file};
+use super::size::Size;
 use crate::drive::drive;
 use crate::random::Random;
 use crate::Flaw;

@@ -2,7 +2,7 @@
 
 use super::case::{Call, Case};
 use super::comparison::Comparison;
-use super::plan::Size;
+use super::size::Size;
 use crate::random::Random;
 use crate::sheets::accepted;
 use crate::Settings;

@@ -2,7 +2,7 @@
 
 use super::case::Case;
 use super::comparison::Comparison;
-use super::plan::Size;
+use super::size::Size;
 use crate::Settings;
 
 /// All of it, or a few L in a light run.

@@ -8,7 +8,7 @@
 
 use super::case::{Call, Case};
 use super::comparison::Comparison;
-use super::plan::Size;
+use super::size::Size;
 use crate::sheets::every;
 use crate::Settings;
 

@@ -1,6 +1,6 @@
 //! Damaged sheets: some are refused always, others most of the time.
 
-use super::{full_and_active, lay};
+use super::laid::{full_and_active, lay};
 use crate::random::Random;
 use crate::Settings;
 
