@@ -4,7 +4,7 @@
 functions=(settings erase read change version)
 sized=(thumbv7em-none-eabi riscv32-unknown-elf i686-unknown-linux-gnu aarch64-unknown-linux-gnu "$target")
 # It calls itself for blocks of half as many cells, from 64 at most down to 2.
-again=staged::later_stage times=6
+again=parity::later_stage times=6
 
 # own_options TARGET: what the kit compiles the archive itself with, beside the usual ones; no other target has more
 own_options() {

@@ -1,5 +1,4 @@
 -- Laws of a block's state: what its weight says of it, and that a block on no cycle is broken. Assumes nothing.
-use mathlib.Core.Bool.{Bool, true, false}
 use mathlib.Core.List.{List, [], _∷_}
 use mathlib.Core.Logic.{_≢_}
 use mathlib.Core.Path.{_≡_, _∙_, ap, ap₂, refl, sym}
@@ -9,35 +8,12 @@ use lib.ListN.{length, replicate}
 use Rattle.laws.specs.Block.{state-one}
 use Rattle.laws.specs.Lists.{sum-low, sum-replicate, sum-zero}
 use Rattle.rules.specs.Block.{empty, full, broken, cycle, stateOf}
-use Rattle.rules.specs.Cells.{Low, same?, sum}
-use Rattle.rules.specs.Search.{pick}
+use Rattle.rules.specs.Cells.{Low, sum}
 
--- ---- a test that answers true or false
-
--- what an answer that is true exactly where A holds says when it is true
-pub test-true : {A : Type 0} (d : Dec A) {r : Bool} → r ≡ pick d true false → r ≡ true → A
-test-true (yes a) p e = a
-test-true (no h) p e = let z : _≡_ {A = ℕ} 0 1 = cc in absurd (omega arith)
-
--- and when it is false
-pub test-false : {A : Type 0} (d : Dec A) {r : Bool} → r ≡ pick d true false → r ≡ false → ¬ A
-test-false (yes a) p e h = let z : _≡_ {A = ℕ} 0 1 = cc in omega arith
-test-false (no h) p e x = h x
-
--- ---- the weights of an empty and of a full block
-
--- what a look for a cell above 0 tells of the sum: there is none
-pub zero-sum : (b : List ℕ) → pick (same? b (replicate (length b) 0)) true false ≡ true → sum b ≡ 0
-zero-sum b t = ap sum (test-true (same? b (replicate (length b) 0)) refl t) ∙ sum-replicate (length b) 0 ∙ omega arith
-
--- or there is one
-pub some-sum : (b : List ℕ) → pick (same? b (replicate (length b) 0)) true false ≡ false → 0 < sum b
-some-sum b t =
-    let n : sum b ≢ 0 = λ e. test-false (same? b (replicate (length b) 0)) refl t (sum-zero b e) in
-    omega arith
+-- ---- a full block
 
 -- cells that are at most L and whose sum is as great as can be are all at L
-pub sum-full : (L : ℕ) (b : List ℕ) → Low L b → sum b ≡ length b * L → b ≡ replicate (length b) L
+sum-full : (L : ℕ) (b : List ℕ) → Low L b → sum b ≡ length b * L → b ≡ replicate (length b) L
 sum-full L [] h e = refl
 sum-full L (x ∷ b) h e =
     let le : sum b ≤ length b * L = sum-low L b (h .1) in
@@ -47,16 +23,16 @@ sum-full L (x ∷ b) h e =
 -- ---- the state of a block of weight v
 
 module _ (L : ℕ) (b : List ℕ) (v : ℕ) (w : v ≡ sum b) (two : 2 ≤ length b) (g : 0 < L) (low : Low L b) where
-  -- weight 0 is empty
+  -- a block of weight 0 is empty
   pub state-empty : v ≡ 0 → empty ≡ stateOf (length b) L b
   state-empty e = sym (state-one (length b) L (omega arith) g empty b (sum-zero b (omega arith)))
 
-  -- the greatest weight is full
+  -- a block of the greatest weight is full
   pub state-full : v ≡ length b * L → full ≡ stateOf (length b) L b
   state-full e = sym (state-one (length b) L (omega arith) g full b (sum-full L b low (omega arith)))
 
   module _ (some : v ≢ 0) (part : v ≢ length b * L) where
-    -- any other weight is below that
+    -- a weight other than 0 and the greatest is below the greatest
     pub under : v < length b * L
     under = omega (arith, sum-low L b low)
 

@@ -8,7 +8,10 @@ pub mod Step
 pub mod Chop
 pub mod Stage
 pub mod Index
+pub mod Regions
 pub mod Live
+pub mod LiveBlock
+pub mod Record
 pub mod PlainMaps
 pub mod Packed
 pub mod PlainSheet
@@ -19,3 +22,4 @@ pub mod Kinds
 pub mod Splice
 pub mod Put
 pub mod Parts
+pub mod Differ

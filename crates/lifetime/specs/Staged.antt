@@ -12,8 +12,9 @@ use Rattle.laws.specs.Chop.{chop-join, chop-sized, join-chop, length-chop, leng
 use Rattle.laws.specs.Halve.{plain-live}
 use Rattle.laws.specs.Lists.{getD-tabulate, length-tabulate, sum-replicate}
 use Rattle.laws.specs.Parity.{count-width, even-width, half-live, half-power, stage0-few}
+use Rattle.laws.specs.Record.{length-entries, record-sized}
 use Rattle.laws.specs.Stage.{Forth, Sized, Used, full-sums, names-few, record-le, sums, used-append}
-use Rattle.lifetime.specs.Move.{Bits, entries-even, entries-names, entries-read, entries-used, indexes-pad, length-entries, record-sized}
+use Rattle.lifetime.specs.Move.{Bits, entries-even, entries-names, entries-read, entries-used, indexes-pad}
 use Rattle.lifetime.specs.Up.{record-up, up-join}
 use Rattle.lifetime.specs.Within.{InLaw, Stands, in-law}
 use Rattle.rules.specs.Cells.{Low, Rises, chop, join, sum, tabulate}
@@ -100,7 +101,7 @@ module _ (s m L : ℕ) where
 
     new-size : Sized (parityLength d) L new
     unfolding new
-    new-size = record-sized (parityLength d) L vs (parityBlocks s m d xs) size
+    new-size = record-sized (parityLength d * L) (parityLength d) L vs (parityBlocks s m d xs) size
 
     new-length : length new ≡ parityCount s m d
     unfolding new

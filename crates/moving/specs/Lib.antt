@@ -1,9 +1,10 @@
 -- What the move to a stage makes of the cells, and the laws of it.
 pub mod Meaning
-pub mod Laws
-pub mod RecordLaws
-pub mod MoveLaws
-pub mod GoingLaws
-pub mod EndLaws
+pub mod RouteLaws
+pub mod RaiseLaws
+pub mod SlotLaws
+pub mod RowLaws
+pub mod NeedLaws
+pub mod CommitLaws
 pub mod RulesLaws
 pub mod Worked

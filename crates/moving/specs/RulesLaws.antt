@@ -1,19 +1,33 @@
--- The move is the rules' move: the sheet after it is the one that the rules write. Assumes nothing.
-use mathlib.Core.List.{List, _++_, map}
+-- The move is the rules' move: above floor 0 it is that of kind 1, and the sheet after it is the one that the rules write. Assumes nothing.
+use mathlib.Core.List.{List, [], _∷_, _++_, map}
 use mathlib.Core.Path.{_≡_, _∙_, ap, ap₂, refl, sym}
 use Prim.Native.Nat.{ℕ, _+_, _-_, _*_, _^_, _<_}
 use native.Mathlib.Omega.{arith}
 use lib.ListN.{length, take, drop, replicate}
 use lib.Seq.{drop-drop}
 use Rattle.laws.specs.Live.{live}
+use Rattle.laws.specs.Parity.{count-width}
+use Rattle.laws.specs.Parts.{chop-take}
+use Rattle.laws.specs.Regions.{plus-nothing}
 use Rattle.laws.specs.Splice.{drop-take}
 use Rattle.rules.specs.Batches.{batchCells, entryCells, write}
 use Rattle.rules.specs.Cells.{chop, join, store}
-use Rattle.rules.specs.Stage.{closed, liveWeights, recordAll, recordedEntries}
+use Rattle.rules.specs.Stage.{Entry, closed, liveWeights, recordAll, recordedEntries}
 use Rattle.rules.specs.Staged.{liveCount, moveTo, parityCount, parityLength}
-use Rattle.moving.specs.Meaning.{batchAfter, moved}
-use Rattle.laws.specs.Parity.{count-width}
-use Rattle.laws.specs.Parts.{chop-take}
+use Rattle.moving.specs.Meaning.{batchAfter, moved, movedAbove, rowCells}
+
+-- at floor 0, with L levels above it, index blocks have the cells of the rules
+row-floor : (L w : ℕ) (es : List Entry) → rowCells 0 L w es ≡ join (map (entryCells L w) es)
+unfolding rowCells
+row-floor L w [] = refl
+row-floor L w (e ∷ es) = ap₂ (λ (x y : List ℕ). x ++ y) (plus-nothing (entryCells L w e)) (row-floor L w es)
+
+-- so the move above floor 0 is the move of kind 1
+pub moved-floor : (at len count w k L : ℕ) (vs f : List ℕ) → movedAbove at len count w 0 L k L vs f ≡ moved at len count w k L vs f
+unfolding movedAbove moved batchAfter
+moved-floor at len count w k L vs f =
+    ap (λ (r : List ℕ). join (recordAll (len * L) L vs (chop len count f)) ++ (drop (count * len) (take at f) ++ (r ++ drop (at + 2 * (k - 1) * w) f)))
+    (row-floor L w (recordedEntries (len * L) L 1 vs (chop len count f) ++ replicate (2 * (k - 1) - length (liveWeights (len * L) (chop len count f))) closed))
 
 module _ (s m L w d : ℕ) (vs f : List ℕ) (h : d < s - 1) where
   -- the parity blocks are cut from the m blocks' own cells

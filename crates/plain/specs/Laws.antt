@@ -10,17 +10,18 @@ use native.Mathlib.Numerals.{add-one}
 use native.Mathlib.Omega.{arith}
 use lib.ListN.{length, getD, getD-replicate, take, drop, replicate, set}
 use lib.Seq.{append-snoc, drop-cons, getD-set-other, getD-set-same, getD-take, length-take-le, set-at, take-suc}
-use Rattle.laws.specs.Block.{Means, cycle-full, cycle-zero, length-cycle, state-means, sum-cycle}
-use Rattle.laws.specs.Cut.{block-fits, length-block, low-block, part-block, store-sum}
+use Rattle.laws.specs.Block.{Means, cycle-full, cycle-zero, state-means}
+use Rattle.laws.specs.Cut.{block-fits, length-block, low-block, part-block}
 use Rattle.laws.specs.Distinct.{Below, Distinct, covers, pigeon, pigeon-absent}
 use Rattle.laws.specs.Lists.{length-tabulate, low-drop, low-take, sum-append, sum-replicate, tabulate-more}
 use Rattle.laws.specs.Live.{run-keeps}
 use Rattle.laws.specs.Packed.{empty-on}
 use Rattle.laws.specs.PlainMaps.{bit-same, empty-view, same-bit, to-bit}
 use Rattle.laws.specs.Stage.{absent-at}
-use Rattle.block.specs.Meaning.{RunFrom}
-use Rattle.block.specs.RunLaws.{past-full}
+use Rattle.cells.specs.Meaning.{RunFrom}
+use Rattle.cells.specs.Laws.{past-full}
 use Rattle.block.specs.StateLaws.{state-empty, state-full}
+use Rattle.rules.specs.Accept.{mostBits}
 use Rattle.rules.specs.Block.{State, active, broken, cellsOf, cycle, empty, full, grown, next, stateOf}
 use Rattle.rules.specs.Cells.{Low, block, store, sum, tabulate}
 use Rattle.rules.specs.Plain.{AllActive, AllOnCycle, BlocksOk, FullLast, HasBit, IsEmpty, NoRepeat, OnCycle, bitOf, blocksOk?, carryOut, change, hasBit?, isEmpty?, plan, planFrom, read, states, valueAt, weight}
@@ -30,10 +31,10 @@ use Rattle.rules.specs.Stage.{Absent}
 use Rattle.rules.specs.Calls.{Pass, Refuse, asCheck}
 use Rattle.rules.specs.declared.Answer.{Answer}
 use Rattle.rules.specs.declared.Answer.the-variants.{BadSheet, Done}
-use Rattle.rules.specs.declared.Look.{Look}
-use Rattle.plain.specs.Meaning.{EmptyFrom, Free, Held, Place, PlaceOf, Scanned, closing, differing, distinct?, erase, free, held, lookOf, none, parities, placeIn, some, step}
+use Rattle.plan.specs.declared.Look.{Look}
+use Rattle.plain.specs.Meaning.{EmptyFrom, Free, Held, Place, PlaceOf, Scanned, closing, differing, distinct?, erase, free, held, lookOf, none, parities, planIn, some, step}
 use Rattle.plain.specs.OrderLaws.{Ends, Ordered, order-ends, order-first, order-hole}
-use Rattle.plain.specs.declared.Found.the-variants.{At, Nowhere}
+use Rattle.plan.specs.declared.Plan.the-variants.{Nowhere, Step}
 
 -- ---- one more block
 
@@ -139,14 +140,14 @@ pub record Known (k m : ℕ) (st : ℕ → State) (j : ℕ) (places weights bits
   pub seen : Seen k st j bits
 
 -- nothing below 0
-known-none : (k m : ℕ) (st : ℕ → State) → k ≤ 64 → Known k m st 0 (replicate 64 m) (replicate 64 0) []
+known-none : (k m : ℕ) (st : ℕ → State) → k ≤ mostBits → Known k m st 0 (replicate mostBits m) (replicate mostBits 0) []
 known-none k m st h = record {
   cycles = λ j l. absurd (not-suc-le-zero l);
   apart = λ j l. absurd (not-suc-le-zero l);
   held = λ i l.
-      let q : i < 64 = omega arith in
-      subst (λ (p : ℕ). Held st i 0 m p (getD (replicate 64 0) i 0)) (sym (getD-replicate 64 i m 0 q))
-      (subst (λ (v : ℕ). Held st i 0 m m v) (sym (getD-replicate 64 i 0 0 q)) (free (λ y z. absurd (not-suc-le-zero z))));
+      let q : i < mostBits = omega arith in
+      subst (λ (p : ℕ). Held st i 0 m p (getD (replicate mostBits 0) i 0)) (sym (getD-replicate mostBits i m 0 q))
+      (subst (λ (v : ℕ). Held st i 0 m m v) (sym (getD-replicate mostBits i 0 0 q)) (free (λ y z. absurd (not-suc-le-zero z))));
   seen = record { below = tt; told = λ i o y l. absurd (not-suc-le-zero l); free = λ i f. tt };
 }
 
@@ -218,7 +219,7 @@ pub record Noted (k m : ℕ) (st : ℕ → State) (j : ℕ) (places weights bits
   pub differ : NoRepeat m st → Distinct bits
 
 -- nothing below 0
-pub noted-none : (k m : ℕ) (st : ℕ → State) → k ≤ 64 → Noted k m st 0 (replicate 64 m) (replicate 64 0) []
+pub noted-none : (k m : ℕ) (st : ℕ → State) → k ≤ mostBits → Noted k m st 0 (replicate mostBits m) (replicate mostBits 0) []
 noted-none k m st h = record { known = λ d. known-none k m st h; differ = λ a. tt }
 
 module _ {k m : ℕ} {st : ℕ → State} {j : ℕ} {places weights bits : List ℕ} (g : Noted k m st j places weights bits) where
@@ -443,18 +444,18 @@ module _ (k L m i : ℕ) (xs : List ℕ) (h : 0 < k) (g : 0 < L) (b : i < k) whe
 
   -- a bit's block and the first empty block give the place of the change
   place-is : {p v e : ℕ} → Held (states k L xs) i m m p v → Place (λ y. IsEmpty (states k L xs y)) m m e
-      → PlaceOf k L m i xs (pick (decLt p m) (At p v) (pick (decLt e m) (At e 0) Nowhere))
+      → PlaceOf k L m i xs (pick (decLt p m) (Step p v) (pick (decLt e m) (Step e 0) Nowhere))
   place-is {e = e} (held x v l q f) w =
       let c : Means k L (active i v) (block k xs x) = block-means x (active i v) q in
-      subst (PlaceOf k L m i xs) (sym (pick-yes (decLt x m) (At x v) (pick (decLt e m) (At e 0) Nowhere) l))
+      subst (PlaceOf k L m i xs) (sym (pick-yes (decLt x m) (Step x v) (pick (decLt e m) (Step e 0) Nowhere) l))
       (step x v l (c .2) (c .3) (own-block (hit x l (to-bit q) f) v q))
   place-is (free f) (some x l n z) =
       let no-own : ¬ (m < m) = λ q. omega arith in
-      subst (PlaceOf k L m i xs) (sym (pick-no (decLt m m) (At m 0) (pick (decLt x m) (At x 0) Nowhere) no-own ∙ pick-yes (decLt x m) (At x 0) Nowhere l))
+      subst (PlaceOf k L m i xs) (sym (pick-no (decLt m m) (Step m 0) (pick (decLt x m) (Step x 0) Nowhere) no-own ∙ pick-yes (decLt x m) (Step x 0) Nowhere l))
       (step x 0 l (mul-pos h g) (empty-cells x n) (new-block (miss f) (hit x l n z)))
   place-is (free f) (none z) =
       let no-own : ¬ (m < m) = λ q. omega arith in
-      subst (PlaceOf k L m i xs) (sym (pick-no (decLt m m) (At m 0) (pick (decLt m m) (At m 0) Nowhere) no-own ∙ pick-no (decLt m m) (At m 0) Nowhere no-own))
+      subst (PlaceOf k L m i xs) (sym (pick-no (decLt m m) (Step m 0) (pick (decLt m m) (Step m 0) Nowhere) no-own ∙ pick-no (decLt m m) (Step m 0) Nowhere no-own))
       (erase (no-block (miss f) (miss z)))
 
 -- a bit's weight gives its reading
@@ -466,41 +467,28 @@ read-is k L m i xs (held x v l q f) =
 read-is k L m i xs (free f) = let st = states k L xs in ap (valueAt (k * L) st) (first-eq (λ y. hasBit? i (st y)) m (miss f))
 
 -- the place that a scan gives: the bit's block
-pub place-own : (s : Look) (i m : ℕ) → getD (s .places) i 0 < m → placeIn s i m ≡ At (getD (s .places) i 0) (getD (s .weights) i 0)
-place-own s i m h = pick-yes (decLt (getD (s .places) i 0) m) (At (getD (s .places) i 0) (getD (s .weights) i 0)) (pick (decLt (s .free) m) (At (s .free) 0) Nowhere) h
+pub place-own : (s : Look) (i m : ℕ) → getD (s .places) i 0 < m → planIn s i m ≡ Step (getD (s .places) i 0) (getD (s .weights) i 0)
+place-own s i m h = pick-yes (decLt (getD (s .places) i 0) m) (Step (getD (s .places) i 0) (getD (s .weights) i 0)) (pick (decLt (s .free) m) (Step (s .free) 0) Nowhere) h
 
 -- the bit has no block: the first empty one
-pub place-empty : (s : Look) (i m : ℕ) → ¬ (getD (s .places) i 0 < m) → s .free < m → placeIn s i m ≡ At (s .free) 0
+pub place-empty : (s : Look) (i m : ℕ) → ¬ (getD (s .places) i 0 < m) → s .free < m → planIn s i m ≡ Step (s .free) 0
 place-empty s i m n h =
-    pick-no (decLt (getD (s .places) i 0) m) (At (getD (s .places) i 0) (getD (s .weights) i 0)) (pick (decLt (s .free) m) (At (s .free) 0) Nowhere) n
-    ∙ pick-yes (decLt (s .free) m) (At (s .free) 0) Nowhere h
+    pick-no (decLt (getD (s .places) i 0) m) (Step (getD (s .places) i 0) (getD (s .weights) i 0)) (pick (decLt (s .free) m) (Step (s .free) 0) Nowhere) n
+    ∙ pick-yes (decLt (s .free) m) (Step (s .free) 0) Nowhere h
 
 -- and there is no empty one: none
-pub place-none : (s : Look) (i m : ℕ) → ¬ (getD (s .places) i 0 < m) → ¬ (s .free < m) → placeIn s i m ≡ Nowhere
+pub place-none : (s : Look) (i m : ℕ) → ¬ (getD (s .places) i 0 < m) → ¬ (s .free < m) → planIn s i m ≡ Nowhere
 place-none s i m n h =
-    pick-no (decLt (getD (s .places) i 0) m) (At (getD (s .places) i 0) (getD (s .weights) i 0)) (pick (decLt (s .free) m) (At (s .free) 0) Nowhere) n
-    ∙ pick-no (decLt (s .free) m) (At (s .free) 0) Nowhere h
+    pick-no (decLt (getD (s .places) i 0) m) (Step (getD (s .places) i 0) (getD (s .weights) i 0)) (pick (decLt (s .free) m) (Step (s .free) 0) Nowhere) n
+    ∙ pick-no (decLt (s .free) m) (Step (s .free) 0) Nowhere h
 
 -- the place that a scan gives is the place of the change
-pub scanned-place : (k L m i : ℕ) (xs : List ℕ) (s : Look) → 2 ≤ k → 1 ≤ L → m * k ≤ length xs → i < k → Scanned k L m xs s → asCheck (s .answer) ≡ Pass → PlaceOf k L m i xs (placeIn s i m)
+pub scanned-place : (k L m i : ℕ) (xs : List ℕ) (s : Look) → 2 ≤ k → 1 ≤ L → m * k ≤ length xs → i < k → Scanned k L m xs s → asCheck (s .answer) ≡ Pass → PlaceOf k L m i xs (planIn s i m)
 scanned-place k L m i xs s h g l b c e = place-is k L m i xs (omega arith) g b (c .bits (scanned-sound c e .0) i b) (c .first (scanned-sound c e .0))
 
 -- the parity of the weight that a scan gives is the reading
 pub scanned-read : (k L m i : ℕ) (xs : List ℕ) (s : Look) → Scanned k L m xs s → asCheck (s .answer) ≡ Pass → i < k → read k L m xs i ≡ getD (s .weights) i 0 % 2
 scanned-read k L m i xs s c e b = read-is k L m i xs (c .bits (scanned-sound c e .0) i b)
-
--- one step raises one level
-pub step-raises : (k L m i j v : ℕ) (xs : List ℕ) → j < m → m * k ≤ length xs → v < k * L → i < k → block k xs j ≡ cycle k L i v
-    → sum (store k xs j (cycle k L i (v + 1))) ≡ suc (sum xs)
-step-raises k L m i j v xs l h q b e =
-    let le : i ≤ k = omega arith in
-    omega (
-      arith,
-      store-sum k xs j (block-end k m j (length xs) h l) (cycle k L i (v + 1)) (length-cycle k L i le (v + 1)),
-      ap sum e,
-      sum-cycle k L i le v (omega arith),
-      sum-cycle k L i le (v + 1) (omega arith),
-    )
 
 -- ---- the values of the bits, one by one
 

@@ -2,3 +2,4 @@
 pub mod Meaning
 pub mod OrderLaws
 pub mod Laws
+pub mod SheetLaws

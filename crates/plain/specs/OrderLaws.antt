@@ -15,7 +15,7 @@ use Rattle.laws.specs.Splice.{drop-take}
 use Rattle.rules.specs.Block.{State, active, full}
 use Rattle.rules.specs.Plain.{IsEmpty, IsFull, NoHole, isEmpty?, lastUsed}
 use Rattle.rules.specs.SearchLaws.{all-more, pick-no, pick-yes}
-use Rattle.block.specs.Meaning.{RunFrom}
+use Rattle.cells.specs.Meaning.{RunFrom}
 use Rattle.rules.specs.Cells.{block, sum}
 use Rattle.plain.specs.Meaning.{EmptyFrom, Place, none, some}
 

@@ -1,36 +1,36 @@
-// The m blocks of a plain sheet, or of a staged one at stage 0: one scan, and the place of a change. Assumes nothing.
+// Plain sheets, and the m blocks of a staged one at stage 0: the look at the blocks, and the plan of a change. Assumes nothing.
+pub mod kind0;
+
 use block::BlockState;
-use block::all_zero;
-use block::past_run;
-use block::run_blocks;
+use cells::all_zero;
+use cells::past_run;
+use cells::run_blocks;
+use plan::Look;
+use plan::Plan;
+use plan::unseen;
 use rules::Answer;
-use rules::Look;
+use rules::MOST_BITS;
 ghost use mathlib.Core.Bool.{true, false};
 ghost use mathlib.Core.Path.{_≡_};
 ghost use Prim.Native.Nat.{_+_, _*_, _/_, _≤_, _<_};
 ghost use mathlib.Core.List.{_++_};
 ghost use lib.ListN.{length, take, drop};
+ghost use Rattle.rules.specs.Accept.{mostBits};
 ghost use Rattle.rules.specs.Cells.{Low, sum};
 ghost use Rattle.rules.specs.Plain.{states};
-ghost use Rattle.rules.specs.declared.Answer.the-variants.{BadSheet};
+ghost use Rattle.cells.specs.Meaning.{run};
 ghost use Rattle.block.specs.Meaning.{asState};
-ghost use Rattle.plain.specs.Meaning.{EmptyFrom, Scanned, closing, differing, lookOf, placeIn, parities};
-
-// The place of a change: a block and the weight that it has on the bit's cycle, or none.
-pub enum Found {
-    At(usize, usize),
-    Nowhere,
-}
+ghost use Rattle.plain.specs.Meaning.{EmptyFrom, Scanned, closing, differing, lookOf, parities, planIn};
 
 // The look at the blocks, of stage 0: the first empty block, or m; each bit's block, or m, and its weight.
-fn look_of(answer: Answer, places: [u16; 64], weights: [u16; 64], free: usize) -> Look
+fn look_of(answer: Answer, places: [u16; MOST_BITS], weights: [u16; MOST_BITS], free: usize) -> Look
     ensures { λ r. ⌜ r ≡ lookOf answer places weights free ⌝ }
 {
     Look {
         answer,
         batch: 0,
         places,
-        slots: [0; 64],
+        slots: [0; MOST_BITS],
         weights,
         free,
         free_slot: 0,
@@ -38,16 +38,9 @@ fn look_of(answer: Answer, places: [u16; 64], weights: [u16; 64], free: usize) -
     }
 }
 
-// The look where the blocks break the rules.
-fn refused() -> Look
-    ensures { λ r. ⌜ r .answer ≡ BadSheet ⌝ }
-{
-    look_of(Answer::BadSheet, [0; 64], [0; 64], 0)
-}
-
 // Whether the first n bits differ: each is held against every earlier one, and both loops are left at the first that an earlier one equals.
-fn check_repeats(bits: [u8; 65], n: usize) -> Answer
-    requires { ⌜ (n ≤ 65) × (length bits ≡ 65) ⌝ }
+fn check_repeats(bits: [u8; MOST_BITS + 1], n: usize) -> Answer
+    requires { ⌜ (n ≤ mostBits + 1) × (length bits ≡ mostBits + 1) ⌝ }
     ensures { λ r. ⌜ r ≡ differing (take n bits) ⌝ }
 {
     let mut later: usize = 0;
@@ -69,7 +62,7 @@ fn check_repeats(bits: [u8; 65], n: usize) -> Answer
 
 // The state of block j.
 fn state_at(cells: &[u8], k: usize, top: u8, j: usize) -> BlockState
-    requires { ⌜ (2 ≤ k) × (k ≤ 64) × (1 ≤ top) × (j * k + k ≤ length (now cells)) × (length (now cells) ≤ 65536) ⌝ }
+    requires { ⌜ (2 ≤ k) × (k ≤ mostBits) × (1 ≤ top) × (j * k + k ≤ length (now cells)) × (length (now cells) ≤ 65536) ⌝ }
     requires { ⌜ Low top (now cells) ⌝ }
     ensures { λ r. ⌜ asState r ≡ states k top (now (cells .entry)) j ⌝ }
 {
@@ -80,7 +73,7 @@ fn state_at(cells: &[u8], k: usize, top: u8, j: usize) -> BlockState
 
 // Whether every block from a number on is empty: past runs of zeros, the cells that are left are all 0. Where all is 0 these are few.
 fn rest_empty(cells: &[u8], k: usize, step: usize, from: usize, m: usize) -> bool
-    requires { ⌜ (1 ≤ k) × (step ≡ 64 / k) × (from ≤ m) × (m * k ≤ length (now cells)) × (length (now cells) ≤ 65536) ⌝ }
+    requires { ⌜ (1 ≤ k) × (step ≡ run / k) × (from ≤ m) × (m * k ≤ length (now cells)) × (length (now cells) ≤ 65536) ⌝ }
     ensures { λ r. ⌜ (r ≡ true → EmptyFrom k (now (cells .entry)) from m) × (r ≡ false → ¬ (EmptyFrom k (now (cells .entry)) from m)) ⌝ }
 {
     let j = past_run(cells, k, step, m, from, 0);
@@ -102,15 +95,15 @@ fn check_last(full: bool, n: usize, k: usize, given: Answer) -> Answer
 // One pass over the blocks: those in use one by one, full ones in runs, and at the first empty one all that come after it; then the search for a repeat.
 // k + 1 bits below k can't all differ, so no more are noted.
 pub fn scan_blocks(cells: &[u8], k: usize, top: u8, m: usize) -> Look
-    requires { ⌜ (2 ≤ k) × (k ≤ 64) × (1 ≤ top) × (m * k ≤ length (now cells)) × (length (now cells) ≤ 65536) ⌝ }
+    requires { ⌜ (2 ≤ k) × (k ≤ mostBits) × (1 ≤ top) × (m * k ≤ length (now cells)) × (length (now cells) ≤ 65536) ⌝ }
     requires { ⌜ Low top (now cells) ⌝ }
     ensures { λ r. ⌜ Scanned k top m (now (cells .entry)) r ⌝ }
 {
     let step = run_blocks(k);
     let mut free = m;
-    let mut places = [m as u16; 64];
-    let mut weights = [0u16; 64];
-    let mut bits = [0u8; 65];
+    let mut places = [m as u16; MOST_BITS];
+    let mut weights = [0u16; MOST_BITS];
+    let mut bits = [0u8; MOST_BITS + 1];
     let mut n: usize = 0;
     let mut full = false;
     let mut next: usize = 0;
@@ -125,13 +118,13 @@ pub fn scan_blocks(cells: &[u8], k: usize, top: u8, m: usize) -> Look
             }
             BlockState::Empty => {
                 if !rest_empty(cells, k, step, next, m) {
-                    return refused();
+                    return unseen(Answer::BadSheet);
                 }
                 free = j;
                 next = m;
                 continue;
             }
-            BlockState::Broken => return refused(),
+            BlockState::Broken => return unseen(Answer::BadSheet),
             BlockState::Active(bit, weight) => {
                 full = false;
                 bits[n] = bit as u8;
@@ -145,24 +138,24 @@ pub fn scan_blocks(cells: &[u8], k: usize, top: u8, m: usize) -> Look
     look_of(answer, places, weights, free)
 }
 
-// The place of a change of this bit: its block, or else the lowest-numbered empty one.
-pub fn place_of(s: Look, bit: usize, m: usize) -> Found
-    requires { ⌜ bit < 64 ⌝ }
-    ensures { λ r. ⌜ r ≡ placeIn s bit m ⌝ }
+// The plan of a change among the blocks: the next step of the bit's block, or else of the lowest-numbered empty one; or no place.
+pub fn plan_blocks(look: Look, bit: usize, blocks: usize) -> Plan
+    requires { ⌜ bit < mostBits ⌝ }
+    ensures { λ r. ⌜ r ≡ planIn look bit blocks ⌝ }
 {
-    let own = s.places[bit] as usize;
-    if own < m {
-        return Found::At(own, s.weights[bit] as usize);
+    let own = look.places[bit] as usize;
+    if own < blocks {
+        return Plan::Step(own, look.weights[bit] as usize);
     }
-    if s.free < m {
-        return Found::At(s.free, 0);
+    if look.free < blocks {
+        return Plan::Step(look.free, 0);
     }
-    Found::Nowhere
+    Plan::Nowhere
 }
 
 // The first k places set to the parities of the weights; how many are 1.
-pub fn write_bits(out: &mut [u8], k: usize, weights: [u16; 64]) -> usize
-    requires { ⌜ (k ≤ 64) × (k ≤ length (now out)) ⌝ }
+pub fn write_bits(out: &mut [u8], k: usize, weights: [u16; MOST_BITS]) -> usize
+    requires { ⌜ (k ≤ mostBits) × (k ≤ length (now out)) ⌝ }
     ensures { λ r. ⌜ r ≡ sum (parities k weights) ⌝ }
     ensures { λ r. ⌜ now (out .exit) ≡ parities k weights ++ drop k (now (out .entry)) ⌝ }
 {

@@ -1,5 +1,6 @@
 // One record of the drive program: what it asks for, and what the library makes of it. Assumes nothing.
 use rules::Answer;
+use rules::MOST_BITS;
 use rules::Settings;
 use rules::Setup;
 ghost use mathlib.Core.Path.{_≡_};
@@ -10,9 +11,6 @@ ghost use Rattle.rules.specs.Calls.{asCheck};
 ghost use Rattle.rules.specs.Promises.{RecordPromise, SumPromise, BitsPromise};
 ghost use Rattle.rules.specs.Records.{operation, cellsAsked, checkForm, checkUnused, checkHeld, heldAfter, eraseStep, changeStep, readStep};
 ghost use Rattle.records.specs.Meaning.{stepOf, asked, checkUse, checkRecord, Front};
-
-// The most bits.
-const MOST_BITS: usize = 64;
 
 // Byte i of a record, as a number.
 fn byte_at(bytes: &[u8], i: usize) -> usize
@@ -208,7 +206,7 @@ pub fn sum_held(held: Settings, cells: &[u8]) -> usize
 {
     if held.genuine() {
         let n = front(held.n, cells);
-        return block::sum_of(&cells[..n]);
+        return cells::sum_of(&cells[..n]);
     }
     0
 }

@@ -9,12 +9,10 @@ ghost use Rattle.rules.specs.AcceptLaws.{PlainFacts, StagedFacts};
 ghost use Rattle.rules.specs.Answer.{numberOf, valueOf};
 ghost use Rattle.rules.specs.Promises.{SettingsPromise, WorkOutPromise, GenuinePromise, GuaranteePromise, BlocksPromise, WidthPromise, BatchStartPromise};
 use crate::Answer;
+use crate::MOST_BITS;
 use crate::REFUSED;
 use crate::Settings;
 use crate::Setup;
-
-// The most bits.
-const MOST_BITS: usize = 64;
 
 // The s of that many bits.
 const MOST_STAGES: usize = 6;

@@ -1,7 +1,10 @@
-// The types that every crate shares: the settings of a sheet, the answer of a call, and a look at a sheet. Assumes nothing.
+// The types that every crate shares: the settings of a sheet and the answer of a call. Assumes nothing.
 ghost use Rattle.rules.specs.Promises.{NumberPromise, ValuePromise};
 
 mod acceptance;
+
+// The most bits: the limit of k, and the length of every array that has a place for each bit.
+pub const MOST_BITS: usize = 64;
 
 // Settings as acceptance gives them: what was asked for, and m blocks, s stages and index width w worked out.
 pub struct Settings {
@@ -42,19 +45,6 @@ pub enum Answer {
 pub struct Setup {
     pub answer: Answer,
     pub settings: Settings,
-}
-
-// What the checks of a sheet find: the first refusal, or Done with the stage that the sheet is in; the first cell of the stage's batch;
-// and for each bit, and for the first block that no bit has, the block, its index block and its weight. The number of blocks stands for none.
-pub struct Look {
-    pub answer: Answer,
-    pub batch: usize,
-    pub places: [u16; 64],
-    pub slots: [u8; 64],
-    pub weights: [u16; 64],
-    pub free: usize,
-    pub free_slot: usize,
-    pub free_weight: usize,
 }
 
 impl Answer {

@@ -1,28 +1,28 @@
 -- Laws of the calls: what the checks in their order say of a look, of a reading and of a change. Assumes nothing.
-use mathlib.Core.Path.{_≡_, refl, sym, ap, ap₂, _∙_, subst}
+use mathlib.Core.Path.{_≡_, sym, ap, ap₂, _∙_, subst}
 use mathlib.Core.List.{List, _++_}
 use mathlib.Core.Logic.{_≢_}
-use Prim.Native.Nat.{ℕ, _-_, _%_, _≤_, _<_}
+use Prim.Native.Nat.{ℕ, _%_, _≤_, _<_}
 use native.Mathlib.Decide.{decLt}
 use native.Mathlib.Omega.{arith}
 use lib.ListN.{length, getD, drop}
-use Rattle.rules.specs.Accept.{Genuine, blockCount, genuine?}
-use Rattle.rules.specs.AcceptLaws.{PlainFacts, StagedFacts, genuine-common}
-use Rattle.rules.specs.Calls.{Check, Pass, andThen, ask, asCheck, bitsOf, changeCall, changing, checkBit, checkLength, checkLevels, checkShape, checkSheet, readBit, readCall, reading, sheetChecks, sound?, outcome, readOut}
+use Rattle.rules.specs.Accept.{Genuine, blockCount, genuine?, widthOf}
+use Rattle.rules.specs.AcceptLaws.{genuine-common, genuine-plain}
+use Rattle.rules.specs.Calls.{Check, Pass, Sound, andThen, ask, asCheck, bitsOf, changeCall, changing, checkBit, checkLength, checkLevels, checkShape, checkSheet, readBit, readCall, reading, sheetChecks, sound?, outcome, readOut}
 use Rattle.rules.specs.Cells.{sum}
 use Rattle.rules.specs.GuaranteeLaws.{reported-is, reported-none}
 use Rattle.rules.specs.declared.Answer.{Answer}
 use Rattle.rules.specs.declared.Answer.the-variants.{BadShape, BadSheet, Done}
-use Rattle.rules.specs.declared.Look.{Look}
+use Rattle.plan.specs.declared.Look.{Look}
 use Rattle.rules.specs.declared.Settings.{Settings}
 use Rattle.laws.specs.Calls.{ask-fails, ask-passes, change-checks, checked-holds, erase-checks, level-is, read-checks, refusal-told, then-both, then-group}
 use Rattle.laws.specs.Lists.{tabulate-same}
 use Rattle.plain.specs.Meaning.{parities}
-use Rattle.sheet.specs.Meaning.{Levelled, LookAt, LookOf, Seen, SeenPlain, SeenStage, SeenZero, Sized, breaks, checkAsked, firstChecks, fromSheet, keeps, later, plain, sizeChecks, sizesOf, unseen, zero}
-use Rattle.sheet.specs.StageLaws.{stage-below}
+use Rattle.plan.specs.Meaning.{Levelled, Sized, breaks, fromSheet, keeps, sizesOf, unseen}
+use Rattle.sheet.specs.Meaning.{LookAt, Seen, SheetLook, checkAsked, firstChecks, sizeChecks}
 use Rattle.sheet.specs.declared.checks.Asked.{Asked}
 use Rattle.sheet.specs.declared.checks.Asked.the-variants.{Bit, Places}
-use Rattle.sheet.specs.declared.layout.Sizes.{Sizes}
+use Rattle.plan.specs.declared.Sizes.{Sizes}
 
 -- ---- the checks, in order
 
@@ -37,6 +37,13 @@ shape-told r m e = go (genuine? r)
     go (no n) =
         let h : ¬ (0 < m) = λ l. omega (arith, e ∙ reported-none r (r .m) n) in
         ask-fails (decLt 0 m) BadShape h ∙ sym (ask-fails (genuine? r) BadShape n)
+
+-- a record of kind 0 has the width 0, whether acceptance gives it or not
+pub plain-width : (r : Settings) → r .kind ≡ 0 → 0 ≡ widthOf r
+plain-width r e = go (genuine? r) where
+  go : Dec (Genuine r) → 0 ≡ widthOf r
+  go (yes g) = sym (reported-is r (r .w) g ∙ genuine-plain r g e .no-width)
+  go (no n) = sym (reported-none r (r .w) n)
 
 -- the sizes taken of a genuine record are its own
 pub sized : (r : Settings) (z : Sizes) → z ≡ sizesOf r → Genuine r → Sized r z
@@ -65,12 +72,12 @@ look-refused r xs asked a e n = record {
 }
 
 -- what check 6 answers
-look-answer : (r : Settings) (xs : List ℕ) (b : Look) → LookOf r xs b → asCheck (b .answer) ≡ checkSheet r xs
+look-answer : (r : Settings) (xs : List ℕ) (b : Look) → SheetLook r xs b → asCheck (b .answer) ≡ checkSheet r xs
 look-answer r xs b (breaks e n) = ap asCheck e ∙ sym (ask-fails (sound? r xs) BadSheet n)
 look-answer r xs b (keeps v e s w y) = ap asCheck e ∙ sym (ask-passes (sound? r xs) BadSheet s)
 
 -- once they have passed, check 6 is the call's
-pub look-told : (r : Settings) (xs : List ℕ) (asked : Asked) (b : Look) → firstChecks r xs asked ≡ Pass → LookOf r xs b → LookAt r xs asked b
+pub look-told : (r : Settings) (xs : List ℕ) (asked : Asked) (b : Look) → firstChecks r xs asked ≡ Pass → SheetLook r xs b → LookAt r xs asked b
 look-told r xs asked b e h = record {
   told = look-answer r xs b h ∙ six-last r xs asked e;
   look = λ v q. (first-passed r xs asked e .0, first-passed r xs asked e .1, h);
@@ -79,7 +86,7 @@ look-told r xs asked b e h = record {
 -- ---- the calls
 
 -- a look that answers Done kept the rules at that stage
-pub seen-is : (r : Settings) (xs : List ℕ) (b : Look) (v : ℕ) → LookOf r xs b → b .answer ≡ Done v
+pub seen-is : (r : Settings) (xs : List ℕ) (b : Look) (v : ℕ) → SheetLook r xs b → b .answer ≡ Done v
     → ((i : ℕ) → i < r .k → readBit r xs i ≡ getD (b .weights) i 0 % 2) × Seen r xs b v
 seen-is r xs b v (breaks e n) q = absurd (let y : Done v ≡ BadSheet = sym q ∙ e in let z : _≡_ {A = ℕ} 0 1 = cc in omega arith)
 seen-is r xs b v (keeps u e s w y) q = let z : u ≡ v = (let p : Done u ≡ Done v = sym e ∙ q in cc) in (w, subst (Seen r xs b) z y)
@@ -117,24 +124,6 @@ change-bit r xs i v b h e = checked-holds (change-checks r xs i) (sym (h .told) 
 pub read-places : (r : Settings) (xs out : List ℕ) (v : ℕ) (b : Look) → LookAt r xs (Places (length out)) b → b .answer ≡ Done v → r .k ≤ length out
 read-places r xs out v b h e = checked-holds (read-checks r xs out) (sym (h .told) ∙ ap asCheck e) .1
 
--- ---- where a look found the sheet
-
--- a plain sheet
-pub seen-plain : (r : Settings) (xs : List ℕ) (b : Look) (v : ℕ) → Seen r xs b v → r .kind ≡ 0 → PlainFacts r × SeenPlain r xs b
-seen-plain r xs b v (plain f h) k = (f, h)
-seen-plain r xs b v (zero p h) k = absurd (omega (arith, p .staged))
-seen-plain r xs b v (later p d h) k = absurd (omega (arith, p .staged))
-
--- a staged sheet at stage 0
-pub seen-zero : (r : Settings) (xs : List ℕ) (b : Look) (v : ℕ) → Seen r xs b v → ¬ (r .kind ≡ 0) → v ≡ 0 → StagedFacts r × SeenZero r xs b
-seen-zero r xs b v (plain f h) k e = absurd (k (f .plain))
-seen-zero r xs b v (zero p h) k e = (p, h)
-seen-zero r xs b v (later p d h) k e = absurd (omega (arith, stage-below r p xs d (h .stage .stage)))
-
--- a staged sheet at a later stage
-pub seen-later : (r : Settings) (xs : List ℕ) (b : Look) (v : ℕ) → Seen r xs b v → ¬ (r .kind ≡ 0) → ¬ (v ≡ 0) → StagedFacts r × SeenStage r xs (r .s - 1 - v) b × (v ≤ r .s - 1)
-seen-later r xs b v (plain f h) k n = absurd (n refl)
-seen-later r xs b v (zero p h) k n = absurd (n refl)
-seen-later r xs b v (later p d h) k n =
-    let e : d ≡ r .s - 1 - (r .s - 1 - d) = omega (arith, stage-below r p xs d (h .stage .stage)) in
-    (p, subst (λ (x : ℕ). SeenStage r xs x b) e h, omega arith)
+-- a change whose checks pass is of a sheet that keeps the rules
+pub change-sound : (r : Settings) (xs : List ℕ) (i v : ℕ) (b : Look) → LookAt r xs (Bit i) b → b .answer ≡ Done v → Sound r xs
+change-sound r xs i v b h e = checked-holds (change-checks r xs i) (sym (h .told) ∙ ap asCheck e) .0 .sound

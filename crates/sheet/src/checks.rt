@@ -1,6 +1,7 @@
-// Checks 1 to 5, each by its own function, and their order: Done where a check passes, else its refusal. Assumes nothing.
-use block::Level;
-use block::first_above;
+// Checks 1 to 5 and 7, each by its own function, and their order: Done where a check passes, else its refusal. Assumes nothing.
+use cells::Level;
+use cells::first_above;
+use plan::Plan;
 use rules::Answer;
 use rules::Settings;
 ghost use mathlib.Core.Path.{_≡_};
@@ -9,7 +10,7 @@ ghost use Rattle.rules.specs.Accept.{blockCount};
 ghost use Rattle.rules.specs.Calls.{ask, asCheck, levelCheck};
 ghost use Rattle.rules.specs.Cells.{firstAbove};
 ghost use Rattle.rules.specs.declared.Answer.the-variants.{BadShape, BadLength, ShortOutput, BadBit};
-ghost use Rattle.sheet.specs.Meaning.{checkAsked, sizeChecks, firstChecks};
+ghost use Rattle.sheet.specs.Meaning.{checkAsked, firstChecks, placeCheck, sizeChecks};
 
 // What a call asks for itself: places of the output, or a bit.
 pub enum Asked {
@@ -103,4 +104,14 @@ pub fn check_call(settings: Settings, blocks: usize, sheet: &[u8], asked: Asked)
         return own;
     };
     check_levels(sheet, settings.top as u8)
+}
+
+// Check 7: the encoding map finds a place for the change.
+pub fn check_place(plan: Plan) -> Answer
+    ensures { λ r. ⌜ r ≡ placeCheck plan ⌝ }
+{
+    if let Plan::Nowhere = plan {
+        return Answer::Erase;
+    }
+    Answer::Done(0)
 }

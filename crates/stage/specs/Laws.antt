@@ -1,68 +1,41 @@
--- Laws of the scan of one stage: the look for the next index block, what one more parity block does to what the scan holds, and how a stage breaks the rules.
+-- Laws of the scan of one stage: what one more parity block does to what the scan holds, and how a stage breaks the rules.
 -- Assumes nothing.
 use mathlib.Core.List.{List, [], _∷_, _++_, append-nil}
-use mathlib.Core.Logic.{_≢_, ⊎-elim}
+use mathlib.Core.Logic.{_≢_}
 use mathlib.Core.Path.{_≡_, _∙_, ap, refl, subst, sym}
-use Prim.Native.Nat.{ℕ, suc, _+_, _-_, _*_, _^_, _≤_, _<_}
+use Prim.Native.Nat.{ℕ, suc, _*_, _≤_, _<_}
 use native.Mathlib.Decide.{ℕ-discrete}
-use native.Mathlib.Nat.{eq-or-lt-of-le, le-of-suc-le-suc, mul-le-mul}
-use native.Mathlib.Numerals.{add-one}
+use native.Mathlib.Nat.{mul-le-mul}
 use native.Mathlib.Omega.{arith}
-use lib.ListN.{drop, getD, getD-replicate, length, length-append, length-set, set, take, List·getD-append}
+use lib.ListN.{getD, getD-replicate, length, length-append, length-set, set, List·getD-append}
 use lib.Seq.{getD-append-seam, getD-set-other, getD-set-same}
-use Rattle.laws.specs.Cut.{block-fits, blocks-cells, length-block, low-block, part-block}
+use Rattle.laws.specs.Cut.{block-fits, blocks-cells, length-block, low-block}
 use Rattle.laws.specs.Lists.{sum-low}
+use Rattle.laws.specs.Live.{liveBlock}
+use Rattle.laws.specs.LiveBlock.{live-block-append, live-block-in, live-block-last, weights-append}
 use Rattle.laws.specs.Stage.{absent-at}
-use Rattle.rules.specs.Batches.{entryOf}
-use Rattle.rules.specs.Cells.{Low, block, sum}
+use Rattle.index.specs.declared.Region.{Region}
+use Rattle.rules.specs.Accept.{mostBits}
+use Rattle.rules.specs.Cells.{block, sum}
 use Rattle.rules.specs.SearchLaws.{pick-no}
-use Rattle.rules.specs.Stage.{Absent, Entry, Names, closed, index, indexes, liveWeights}
-use Rattle.stage.specs.LiveLaws.{absent-append, indexes-append, live-block-append, live-block-in, live-block-last, names-free, names-new, open-entry-append, open-entry-last, weights-append}
-use Rattle.stage.specs.Meaning.{BatchFits, ClosedFrom, FirstAt, Home, Passed, StageFits, begun, entryAt, has, hasNot, liveBlock, withFree}
-use Rattle.rules.specs.declared.Look.{Look}
+use Rattle.rules.specs.Stage.{Absent, Entry, Names, index, indexes, liveWeights}
+use Rattle.stage.specs.LiveLaws.{absent-append, indexes-append, names-free, names-new, open-entry-append, open-entry-last}
+use Rattle.stage.specs.Meaning.{FirstAt, Home, Passed, StageFits, begun, has, hasNot, withFree}
+use Rattle.plan.specs.declared.Look.{Look}
 
 -- ---- what a stage asks keeps its numbers small
 
-module _ {len count w k L : ℕ} {cells batch : List ℕ} (f : StageFits len count w k L cells batch) where
+module _ {len count : ℕ} {region : Region} {k L : ℕ} {cells batch : List ℕ} (f : StageFits len count region k L cells batch) where
   -- a stage has at most 32,768 parity blocks
   pub count-most : count ≤ 32768
   count-most = omega (arith, blocks-cells len count (f .long), f .inside, f .short)
 
-  -- and none weighs more than 64 cells of 255 levels
+  -- and none weighs more than as many cells as there can be bits, of 255 levels
   pub weight-most : L ≤ 255 → (j v : ℕ) → j < count → v ≡ sum (block len cells j) → v ≤ 16320
   weight-most g j v h e =
       let n : length (block len cells j) ≡ len = length-block len cells j (omega (arith, block-fits len j count h, f .inside)) in
       let l : sum (block len cells j) ≤ len * L = subst (λ (x : ℕ). sum (block len cells j) ≤ x * L) n (sum-low L (block len cells j) (low-block L len cells j (f .low))) in
       omega (arith, mul-le-mul (f .brief) g)
-
--- ---- the look for the next index block
-
-module _ (w q L x : ℕ) (batch : List ℕ) (fits : BatchFits w q L batch) (h : x < q) where
-  -- an index block has w cells
-  index-length : length (block w batch x) ≡ w
-  index-length = length-block w batch x (omega (arith, block-fits w x q h, fits .holds))
-
-  -- an index block may be read
-  pub index-asked : (suc L ^ length (take (x * w + w - x * w) (drop (x * w) batch)) ≤ 16777216) × Low L (take (x * w + w - x * w) (drop (x * w) batch))
-  index-asked =
-      subst (λ (b : List ℕ). (suc L ^ length b ≤ 16777216) × Low L b) (sym (part-block w batch x))
-      (subst (λ (n : ℕ). suc L ^ n ≤ 16777216) (sym index-length) (fits .narrow), low-block L w batch x (fits .low))
-
-  -- and says what the entry is
-  pub index-said : entryOf L (length (take (x * w + w - x * w) (drop (x * w) batch))) (take (x * w + w - x * w) (drop (x * w) batch)) ≡ entryAt L w batch x
-  index-said =
-      ap (λ (b : List ℕ). entryOf L (length b) b) (part-block w batch x)
-      ∙ ap (λ (n : ℕ). entryOf L n (block w batch x)) index-length
-
-module _ (L w : ℕ) (batch : List ℕ) (from : ℕ) where
-  -- what the look has passed
-  pub closed-none : ClosedFrom L w batch from from
-  closed-none x h l = absurd (omega arith)
-
-  -- one more of them
-  pub closed-more : (x : ℕ) → ClosedFrom L w batch from x → entryAt L w batch x ≡ closed → ClosedFrom L w batch from (x + 1)
-  closed-more x h e y a b =
-      ⊎-elim (λ q. subst (λ (z : ℕ). entryAt L w batch z ≡ closed) (sym q) e) (λ l. h y a l) (eq-or-lt-of-le (le-of-suc-le-suc (subst (λ (m : ℕ). y < m) (add-one x) b)))
 
 -- ---- the first rank of a number
 
@@ -128,10 +101,10 @@ pub passed-none : (stage cell k W none : ℕ) → Passed stage cell k W none [] 
 passed-none stage cell k W none = record {
   answer = refl;
   batch = refl;
-  of-64 = (refl, refl, refl);
+  lengths = (refl, refl, refl);
   as-many = refl;
   names = tt;
-  homes = λ i l. hasNot tt (getD-replicate 64 i none 0 l) (getD-replicate 64 i 0 0 l) (getD-replicate 64 i 0 0 l);
+  homes = λ i l. hasNot tt (getD-replicate mostBits i none 0 l) (getD-replicate mostBits i 0 0 l) (getD-replicate mostBits i 0 0 l);
   free = hasNot tt refl refl refl;
 }
 
@@ -144,7 +117,7 @@ module _ (stage cell k W none : ℕ) (bs : List (List ℕ)) (es : List Entry) (s
       record {
         answer = g .answer;
         batch = g .batch;
-        of-64 = g .of-64;
+        lengths = g .lengths;
         as-many = ap length ts ∙ g .as-many ∙ sym (ap length ws);
         names = subst (Names k) (sym ts) (g .names);
         homes = λ i l. home-more W none (suc i) bs es (g .as-many) cs fs _ _ _ (λ a. subst (Absent (suc i)) (sym f) tt) (g .homes i l);
@@ -170,7 +143,7 @@ module _ (stage cell k W none : ℕ) (bs : List (List ℕ)) (es : List Entry) (s
     passed-free a = record {
       answer = g .answer;
       batch = g .batch;
-      of-64 = g .of-64;
+      lengths = g .lengths;
       as-many = one-more 0;
       names = free-names;
       homes = λ i l. home-more W none (suc i) bs es (g .as-many) (b ∷ []) (index 0 ∷ []) _ _ _ (λ o. (λ e. omega arith, tt)) (g .homes i l);
@@ -184,7 +157,7 @@ module _ (stage cell k W none : ℕ) (bs : List (List ℕ)) (es : List Entry) (s
       passed-first-free a = record {
         answer = g .answer;
         batch = g .batch;
-        of-64 = g .of-64;
+        lengths = g .lengths;
         as-many = one-more 0;
         names = free-names;
         homes = λ i l. home-more W none (suc i) bs es (g .as-many) (b ∷ []) (index 0 ∷ []) _ _ _ (λ r. (λ e. omega arith, tt)) (g .homes i l);
@@ -192,24 +165,24 @@ module _ (stage cell k W none : ℕ) (bs : List (List ℕ)) (es : List Entry) (s
       }
 
       -- a bit's number, and each other bit's
-      own-at : (i : ℕ) → i < 64 → Absent (suc i) (indexes es) → (x : ℕ) → x < 64 → Dec (x ≡ i)
+      own-at : (i : ℕ) → i < mostBits → Absent (suc i) (indexes es) → (x : ℕ) → x < mostBits → Dec (x ≡ i)
           → Home W none (suc x) (bs ++ (b ∷ [])) (es ++ (index (suc i) ∷ [])) (getD (set (s .places) i place) x 0) (getD (set (s .slots) i slot) x 0) (getD (set (s .weights) i weight) x 0)
       own-at i h a x l (yes e) =
           subst (λ (y : ℕ). Home W none (suc y) (bs ++ (b ∷ [])) (es ++ (index (suc i) ∷ [])) (getD (set (s .places) i place) y 0) (getD (set (s .slots) i slot) y 0) (getD (set (s .weights) i weight) y 0)) (sym e)
           (home-same (home-new W none (suc i) bs es (g .as-many) b n a)
-          (getD-set-same (s .places) i place 0 (omega (arith, g .of-64 .0)) ∙ p) (getD-set-same (s .slots) i slot 0 (omega (arith, g .of-64 .1)) ∙ o) (getD-set-same (s .weights) i weight 0 (omega (arith, g .of-64 .2)) ∙ v))
+          (getD-set-same (s .places) i place 0 (omega (arith, g .lengths .0)) ∙ p) (getD-set-same (s .slots) i slot 0 (omega (arith, g .lengths .1)) ∙ o) (getD-set-same (s .weights) i weight 0 (omega (arith, g .lengths .2)) ∙ v))
       own-at i h a x l (no e) =
           home-same (home-more W none (suc x) bs es (g .as-many) (b ∷ []) (index (suc i) ∷ []) _ _ _ (λ r. (λ q. e (omega arith), tt)) (g .homes x l))
           (getD-set-other (s .places) i x place 0 e) (getD-set-other (s .slots) i x slot 0 e) (getD-set-other (s .weights) i x weight 0 e)
 
       -- a bit's
-      pub passed-own : (i : ℕ) → i < k → i < 64 → Absent (suc i) (indexes es)
+      pub passed-own : (i : ℕ) → i < k → i < mostBits → Absent (suc i) (indexes es)
           → Passed stage cell k W none (bs ++ (b ∷ [])) (es ++ (index (suc i) ∷ []))
           (record { answer = s .answer; batch = s .batch; places = set (s .places) i place; slots = set (s .slots) i slot; weights = set (s .weights) i weight; free = s .free; «free_slot» = s .«free_slot»; «free_weight» = s .«free_weight» })
       passed-own i h m a = record {
         answer = g .answer;
         batch = g .batch;
-        of-64 = (length-set (s .places) i place ∙ g .of-64 .0, length-set (s .slots) i slot ∙ g .of-64 .1, length-set (s .weights) i weight ∙ g .of-64 .2);
+        lengths = (length-set (s .places) i place ∙ g .lengths .0, length-set (s .slots) i slot ∙ g .lengths .1, length-set (s .weights) i weight ∙ g .lengths .2);
         as-many = one-more (suc i);
         names = subst (Names k) (sym (indexes-append es (index (suc i) ∷ []))) (names-new k i (indexes es) (g .names) h a);
         homes = λ x l. own-at i m a x l (ℕ-discrete x i);

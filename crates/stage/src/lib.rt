@@ -1,44 +1,21 @@
-// One stage from 1 up: its check, every bit's block and the place of a change, in one pass over its parity blocks. Assumes nothing.
-use block::past_run;
-use block::run_blocks;
+// One stage from 1 up: its check and every bit's block, in one pass over its parity blocks; and the plan of a change in it. Assumes nothing.
+use cells::past_run;
+use cells::run_blocks;
+use cells::sum_of;
+use index::Live;
+use index::Region;
+use index::next_index;
+use plan::Look;
+use plan::Plan;
+use plan::unseen;
 use rules::Answer;
-use rules::Look;
-use staged::Index;
+use rules::MOST_BITS;
 ghost use mathlib.Core.Path.{_≡_};
 ghost use Prim.Native.Nat.{_+_, _-_, _*_, _≤_, _<_};
 ghost use lib.ListN.{length};
+ghost use Rattle.rules.specs.Accept.{mostBits};
 ghost use Rattle.rules.specs.Cells.{sum, block, chop};
-ghost use Rattle.stage.specs.Meaning.{entries, BatchFits, NextIndex, StageFits, StageScanned, begun, broken, endedBy, placeIn, withFree};
-
-// The next index block that isn't full, and its number.
-pub enum Live {
-    At(usize, usize),
-    Nowhere,
-}
-
-// The place of a change: the bit's own block, the first free one, or a later stage; a block with its index block and its weight.
-pub enum StagePlace {
-    Own(usize, usize, usize),
-    Free(usize, usize, usize),
-    Beyond,
-}
-
-// The first index block from a number on that isn't full.
-fn next_index(batch: &[u8], w: usize, q: usize, top: u8, from: usize) -> Live
-    requires { ⌜ BatchFits w q top (now batch) ⌝ }
-    ensures { λ r. ⌜ NextIndex top w (now (batch .entry)) q from r ⌝ }
-{
-    let mut x = from;
-    while x < q {
-        let a = x * w;
-        let e = a + w;
-        if let Index::Number(u) = staged::index_of(&batch[a..e], top) {
-            return Live::At(x, u);
-        }
-        x += 1;
-    }
-    Live::Nowhere
-}
+ghost use Rattle.stage.specs.Meaning.{entriesIn, Near, StageFits, StageScanned, begun, endedBy, planIn, withFree};
 
 // The weight of parity block j.
 fn weight_of(cells: &[u8], len: usize, j: usize) -> usize
@@ -47,36 +24,20 @@ fn weight_of(cells: &[u8], len: usize, j: usize) -> usize
 {
     let a = j * len;
     let e = a + len;
-    block::sum_of(&cells[a..e])
+    sum_of(&cells[a..e])
 }
 
 // A scan of nothing so far.
-fn begin(stage: usize, cell: usize, none: u16) -> Look
-    ensures { λ r. ⌜ r ≡ begun stage cell none ⌝ }
+fn begin(stage: usize, region: Region, none: u16) -> Look
+    ensures { λ r. ⌜ r ≡ begun stage (region .cell) none ⌝ }
 {
     Look {
         answer: Answer::Done(stage),
-        batch: cell,
-        places: [none; 64],
-        slots: [0; 64],
-        weights: [0; 64],
+        batch: region.cell,
+        places: [none; MOST_BITS],
+        slots: [0; MOST_BITS],
+        weights: [0; MOST_BITS],
         free: none as usize,
-        free_slot: 0,
-        free_weight: 0,
-    }
-}
-
-// The scan of a stage that breaks the rules.
-fn unsound() -> Look
-    ensures { λ r. ⌜ r ≡ broken ⌝ }
-{
-    Look {
-        answer: Answer::BadSheet,
-        batch: 0,
-        places: [0; 64],
-        slots: [0; 64],
-        weights: [0; 64],
-        free: 0,
         free_slot: 0,
         free_weight: 0,
     }
@@ -98,29 +59,28 @@ fn ended(s: Look, left: Live) -> Look
     ensures { λ r. ⌜ r ≡ endedBy s left ⌝ }
 {
     match left {
-        Live::At(_, _) => unsound(),
+        Live::At(_, _) => unseen(Answer::BadSheet),
         Live::Nowhere => s,
     }
 }
 
-// The check of a stage, whose batch begins at a cell of the sheet, and every bit's block: the j-th parity block that isn't full belongs to the j-th index block that isn't full.
+// The check of a stage, whose index blocks stand in a region of the sheet, and every bit's block: the j-th parity block that isn't full belongs to the j-th index block that isn't full.
 pub fn scan_stage(
     stage: usize,
-    cell: usize,
+    region: Region,
     cells: &[u8],
     batch: &[u8],
     len: usize,
     count: usize,
-    w: usize,
     k: usize,
     top: u8,
 ) -> Look
-    requires { ⌜ StageFits len count w k top (now cells) (now batch) ⌝ }
-    ensures { λ r. ⌜ StageScanned stage cell k (len * top) (chop len count (now (cells .entry))) (entries top w (2 * (k - 1)) (now (batch .entry))) r ⌝ }
+    requires { ⌜ StageFits len count region k top (now cells) (now batch) ⌝ }
+    ensures { λ r. ⌜ StageScanned stage (region .cell) k (len * top) (chop len count (now (cells .entry))) (entriesIn region (2 * (k - 1)) (now (batch .entry))) r ⌝ }
 {
     let step = run_blocks(len);
     let none = count as u16;
-    let mut s = begin(stage, cell, none);
+    let mut s = begin(stage, region, none);
     let mut next: usize = 0;
     let mut at: usize = 0;
     while at < count {
@@ -131,8 +91,8 @@ pub fn scan_stage(
             at = past_run(cells, len, step, count, at, top);
             continue;
         }
-        let Live::At(slot, u) = next_index(batch, w, 2 * (k - 1), top, next) else {
-            return unsound();
+        let Live::At(slot, u) = next_index(batch, region, 2 * (k - 1), next) else {
+            return unseen(Answer::BadSheet);
         };
         next = slot + 1;
         if u == 0 {
@@ -143,26 +103,41 @@ pub fn scan_stage(
         }
         let bit = u - 1;
         if k < u || s.places[bit] < none {
-            return unsound();
+            return unseen(Answer::BadSheet);
         }
         s.places[bit] = j as u16;
         s.slots[bit] = slot as u8;
         s.weights[bit] = v as u16;
     }
-    ended(s, next_index(batch, w, 2 * (k - 1), top, next))
+    ended(s, next_index(batch, region, 2 * (k - 1), next))
 }
 
-// The place of a change of a bit within the stage; count stands for none.
-pub fn place_in(s: Look, bit: usize, count: usize) -> StagePlace
-    requires { ⌜ bit < 64 ⌝ }
-    ensures { λ r. ⌜ r ≡ placeIn s bit count ⌝ }
+// The first cell of an index block of a batch.
+fn index_at(batch: usize, slot: usize, width: usize) -> usize
+    requires { ⌜ (batch ≤ 65536) × (slot ≤ 255) × (width ≤ 65536) ⌝ }
+    ensures { λ r. ⌜ r ≡ batch + slot * width ⌝ }
 {
-    let place = s.places[bit] as usize;
-    if place < count {
-        return StagePlace::Own(place, s.slots[bit] as usize, s.weights[bit] as usize);
+    batch + slot * width
+}
+
+// The plan of a change within the stage: the bit's own block is raised, and its index block to full if that fills it; else the bit takes the first free block,
+// raised only if its weight is even; or the stage has no place. `count` stands for no block, and `full` is the weight of a full one.
+pub fn plan_in(look: Look, bit: usize, count: usize, width: usize, full: usize) -> Plan
+    requires { ⌜ (bit < mostBits) × Near look bit width ⌝ }
+    ensures { λ r. ⌜ r ≡ planIn look bit count width full ⌝ }
+{
+    let own = look.places[bit] as usize;
+    if own < count {
+        let weight = look.weights[bit] as usize;
+        if weight + 1 != full {
+            return Plan::Raise(own);
+        }
+        let index = index_at(look.batch, look.slots[bit] as usize, width);
+        return Plan::Close(own, index);
     }
-    if s.free < count {
-        return StagePlace::Free(s.free, s.free_slot, s.free_weight);
+    if look.free < count {
+        let index = index_at(look.batch, look.free_slot, width);
+        return Plan::Take(look.free, index, 1 - look.free_weight % 2);
     }
-    StagePlace::Beyond
+    Plan::Nowhere
 }

@@ -1,6 +1,6 @@
 -- `block::at_top` meets its contract. Assumes nothing.
 use native.Mathlib.Omega.{arith}
-use Rattle.block.specs.LevelLaws.{higher-no, higher-yes}
+use Rattle.block.proofs.LevelLaws.{higher-no, higher-yes}
 use Rattle.block.proofs.at_top.Statement.{statement}
 use Rattle.block.proofs.at_top.Tie as tie
 

@@ -1,7 +1,7 @@
 -- `block::higher` meets its contract. Assumes nothing.
 use mathlib.Core.Path.{sym}
 use native.Mathlib.Omega.{arith}
-use Rattle.block.specs.LevelLaws.{higher-no, higher-yes}
+use Rattle.block.proofs.LevelLaws.{higher-no, higher-yes}
 use Rattle.block.proofs.higher.Statement.{statement}
 use Rattle.block.proofs.higher.Tie as tie
 

@@ -1,12 +1,13 @@
 -- `block::shape_of` meets its contract: the shape of the cells passed and that of the cells left make the whole. Assumes nothing.
-use mathlib.Core.Path.{_≡_}
+use mathlib.Core.Path.{_≡_, ap}
 use Prim.Native.Nat.{_+_, _-_, _%_, _≤_, _<_}
 use native.Mathlib.Omega.{arith}
 use borrow.Author.Needs.{needs}
 use lib.ListN.{length, drop}
+use Rattle.laws.specs.Lists.{drop-next}
 use Rattle.rules.specs.Cells.{sum}
 use Rattle.block.specs.Meaning.{higher, lastOf, nonzero, riseCells, rises, tops}
-use Rattle.block.specs.PassLaws.{cells-next, last-next, nonzero-next, rises-next, shape-whole, sum-next, tops-next}
+use Rattle.block.proofs.PassLaws.{shape-whole}
 use Rattle.block.proofs.shape_of.Statement.{statement}
 use Rattle.block.proofs.shape_of.Tie as tie
 
@@ -29,17 +30,19 @@ abbrev μ-loop : tie.MeasureT-loop
 μ-loop b top n₀ s₀ r₀ t₀ v₀ a₀ i₀ n s r t v a i = length b - i
 
 loop-again : tie.Need-loop-again Inv-loop μ-loop
+unfolding rises riseCells nonzero tops lastOf
 loop-again c =
     let l = c .before .before .before .before .before .before .before .before in
     let b = l .before .before .args .b .now in
     let i = l .loop .i in
     let h = c .before .before .before .before .before .before .before .loop-test .taken in
-    let up = rises-next b i h (l .loop .before) in
-    let cells = cells-next b i h (l .loop .before) in
-    let high = nonzero-next b i h in
-    let top = tops-next b i h (l .before .before .args .top) in
-    let all = sum-next b i h in
-    let last = last-next b i h (l .loop .before) in
+    let next = drop-next b i h in
+    let up = ap (rises (l .loop .before)) next in
+    let cells = ap (riseCells i (l .loop .before)) next in
+    let high = ap nonzero next in
+    let top = ap (tops (l .before .before .args .top)) next in
+    let all = ap sum next in
+    let last = ap (lastOf (l .loop .before)) next in
     (omega arith, omega arith, omega arith, omega arith, omega arith, omega arith, omega arith, omega arith, omega arith, omega arith, omega arith, omega arith)
 
 returns : tie.Need-returns Inv-loop μ-loop

@@ -1,7 +1,7 @@
 -- `block::state_of` meets its contract: the shape says the state. Assumes nothing.
 use native.Mathlib.Omega.{arith}
 use borrow.Author.Needs.{needs}
-use Rattle.block.specs.ShapeLaws.{shape-active, shape-empty, shape-few, shape-full, shape-middles, shape-rises}
+use Rattle.block.proofs.ShapeLaws.{shape-active, shape-empty, shape-few, shape-full, shape-middles, shape-rises}
 use Rattle.block.proofs.state_of.Statement.{statement}
 use Rattle.block.proofs.state_of.Tie as tie
 

@@ -3,19 +3,20 @@ use Prim.Native.Nat.{_≤_}
 use native.Mathlib.Nat.{mul-le-mul}
 use native.Mathlib.Omega.{arith}
 use borrow.Author.Needs.{needs}
+use Rattle.rules.specs.Accept.{mostBits}
 use Rattle.block.proofs.weight_of.Statement.{statement}
 use Rattle.block.proofs.weight_of.Tie as tie
 
 mul-whole : tie.Need-mul-whole
 mul-whole c =
-    let h : c .args .tops ≤ 64 = omega arith in
+    let h : c .args .tops ≤ mostBits = omega arith in
     let g : c .args .top ≤ 255 = omega arith in
     omega (arith, mul-le-mul h g)
 
 add-result : tie.Need-add-result
 add-result c =
     let a = c .before .args in
-    let h : a .tops ≤ 64 = omega arith in
+    let h : a .tops ≤ mostBits = omega arith in
     let g : a .top ≤ 255 = omega arith in
     omega (arith, mul-le-mul h g)
 

@@ -2,7 +2,7 @@
 use mathlib.Core.Path.{_∙_, sym}
 use native.Mathlib.Omega.{arith}
 use borrow.Author.Needs.{needs}
-use Rattle.block.specs.StateLaws.{some-sum, zero-sum}
+use Rattle.cells.specs.Laws.{some-sum, zero-sum}
 use Rattle.plain.specs.OrderLaws.{from-inside, rest-false, rest-true}
 use Rattle.plain.proofs.rest_empty.Statement.{statement}
 use Rattle.plain.proofs.rest_empty.Tie as tie

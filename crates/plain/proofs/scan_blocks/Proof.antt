@@ -12,9 +12,11 @@ use lib.ListN.{length, take, set, length-set}
 use lib.Seq.{take-suc-set}
 use Rattle.laws.specs.Cut.{blocks-cells}
 use Rattle.block.specs.Meaning.{asState}
+use Rattle.rules.specs.Accept.{mostBits}
 use Rattle.rules.specs.Block.{State, active}
 use Rattle.rules.specs.Plain.{IsEmpty, states}
 use Rattle.rules.specs.declared.Answer.{Answer}
+use Rattle.plan.specs.declared.Look.{Look}
 use Rattle.plain.specs.Meaning.{Scanned, closing, lookOf}
 use Rattle.plain.specs.Laws.{Known, Noted, active-below, block-end, empty-rest, known-full, known-rest, noted-active, noted-none, noted-on, past-all, rest-weights, scan-broken, scan-decided, scan-hole}
 use Rattle.plain.specs.OrderLaws.{Ordered, order-active, order-empty, order-full, order-none}
@@ -24,7 +26,7 @@ use Rattle.plain.proofs.scan_blocks.Tie as tie
 -- where the bits noted differ, all is known of the blocks below j; those in use stand first
 abbrev Inv-loop : tie.InvT-loop
 Inv-loop cells k top m step free₀ places₀ weights₀ bits₀ n₀ full₀ next₀ free places weights bits n full next =
-    (next ≤ m) × (n ≤ k + 1) × (length places ≡ 64) × (length weights ≡ 64) × (length bits ≡ 65)
+    (next ≤ m) × (n ≤ k + 1) × (length places ≡ mostBits) × (length weights ≡ mostBits) × (length bits ≡ mostBits + 1)
     × Noted k m (states k top cells) next places weights (take n bits) × Ordered (states k top cells) m next free full
 
 abbrev μ-loop : tie.MeasureT-loop
@@ -60,11 +62,11 @@ below c =
 bit-below : (c : tie.After-known-told Inv-loop μ-loop) → bit c < c .before .before .before .before .before .before .before .before .before .args .k
 bit-below c = below c .0
 
--- the weight of 64 cells of 255 levels is the most
+-- the weight of as many cells as there can be bits, of 255 levels, is the most
 weight-below : (c : tie.After-known-told Inv-loop μ-loop) → weight c < 16320
 weight-below c =
     let a = c .before .before .before .before .before .before .before .before .before .args in
-    let h : a .k ≤ 64 = omega arith in
+    let h : a .k ≤ mostBits = omega arith in
     let g : a .top ≤ 255 = omega arith in
     omega (arith, below c .1, mul-le-mul h g)
 
@@ -116,7 +118,7 @@ returns c =
     let t = r .before in
     let o = t .before .before .before .before .before in
     let a = o .before .before .before .args in
-    scan-hole (a .k) (a .top) (a .m) (o .loop .next) (a .cells .now) _ (c .refused .ensures) (omega arith) (state-is (t .before .before) _ (ap asState (t .enum-told2 .given .1)))
+    scan-hole (a .k) (a .top) (a .m) (o .loop .next) (a .cells .now) _ (ap (λ (s : Look). s .answer) (c .unseen .ensures)) (omega arith) (state-is (t .before .before) _ (ap asState (t .enum-told2 .given .1)))
     (λ h. r .rest-empty .ensures .1 (not-true _ (c .before .if2 .taken)) (rest-weights (a .k) (a .top) (a .m) (a .cells .now) (omega arith) (omega arith) (omega arith) (o .before .before .before .pre .1) h))
 
 loop-again-2 : tie.Need-loop-again-2 Inv-loop μ-loop
@@ -141,7 +143,7 @@ returns-2 c =
     let t = c .before in
     let o = t .before .before .before .before .before in
     let a = o .before .before .before .args in
-    scan-broken (a .k) (a .top) (a .m) (o .loop .next) (a .cells .now) _ (c .refused2 .ensures) (omega arith)
+    scan-broken (a .k) (a .top) (a .m) (o .loop .next) (a .cells .now) _ (ap (λ (s : Look). s .answer) (c .unseen2 .ensures)) (omega arith)
     (state-is (t .before .before) _ (ap asState (t .enum-told3 .given .1)))
 
 cast-bits : tie.Need-cast-bits Inv-loop μ-loop

@@ -1,10 +1,11 @@
--- A change answers by the checks in number order, and then by the sheet's kind and stage.
-use mathlib.Core.Path.{refl, _∙_}
-use native.Mathlib.Omega.{arith}
+-- A change answers by the checks in number order: look, plan, and then the plan carried out.
+use mathlib.Core.Path.{refl, sym, ap, _∙_}
 use borrow.Author.Needs.{needs}
+use Rattle.rules.specs.Calls.{outcome}
 use Rattle.rules.specs.PromiseLaws.{told}
 use Rattle.laws.specs.Calls.{not-done}
-use Rattle.sheet.specs.CallLaws.{change-bit, change-passed, change-refused, seen-is, seen-later, seen-plain, seen-zero, sized}
+use Rattle.sheet.specs.CallLaws.{change-bit, change-passed, change-refused, change-sound, seen-is, sized}
+use Rattle.sheet.specs.ChangeLaws.{carried-done, carried-none, place-none, place-zero, seen-stage}
 use Rattle.sheet.proofs.change.Statement.{statement}
 use Rattle.sheet.proofs.change.Tie as tie
 
@@ -14,72 +15,57 @@ look-at-requires c κs = c .before .sizes-of .ensures
 returns : tie.Need-returns
 returns c = told (change-refused _ _ _ _ _ (c .before .look-at .ensures) refl (not-done _ (c .match .keys2)))
 
-change-plain-requires : tie.Need-change-plain-requires
-change-plain-requires c κs =
-    let a = c .before .before .before .before in
+plan-change-requires : tie.Need-plan-change-requires
+plan-change-requires c κs =
+    let a = c .before .before in
     let l = a .before .before in
     let z = l .before .before in
     let h = l .look-at .ensures in
     let e = a .answer .given .1 in
     let g = h .look _ e in
-    let s = seen-plain _ _ _ _ (seen-is _ _ _ _ (g .2) e .1) (c .before .if1 .taken) in
-    (s .0, g .1, change-bit _ _ _ _ _ h e, sized _ _ (z .sizes-of .ensures) (g .0), s .1)
+    (g .1, change-bit _ _ _ _ _ h e, g .0, seen-is _ _ _ _ (g .2) e .1, sized _ _ (z .sizes-of .ensures) (g .0))
 
 returns-2 : tie.Need-returns-2
 returns-2 c =
-    let p = c .before .before in
-    let a = p .before .before .before .before .before in
-    told (p .change-plain .ensures ∙ change-passed _ _ _ _ _ (a .before .before .look-at .ensures) (a .answer .given .1))
+    let k = c .before in
+    let p = k .before in
+    let a = p .before .before .before in
+    let l = a .before .before in
+    let o = l .before .before .before .before in
+    let h = l .look-at .ensures in
+    let e = a .answer .given .1 in
+    let n = place-none (p .plan-change .result) (λ v q. not-done _ (c .match2 .keys2) v (k .check-place .ensures ∙ q)) in
+    told (ap (λ x. outcome x (o .args .sheet .now)) (k .check-place .ensures ∙ n .1)
+    ∙ carried-none (o .args .settings) (o .args .sheet .now) (change-sound _ _ _ _ _ h e) (o .args .bit) _ _ (p .plan-change .result) (p .plan-change .ensures) (n .0) ∙ change-passed _ _ _ _ _ h e)
 
-change-stage0-requires : tie.Need-change-stage0-requires
-change-stage0-requires c κs =
-    let a = c .before .before .before .before .before in
+carry-requires : tie.Need-carry-requires
+carry-requires c κs =
+    let t = c .before .before in
+    let k = t .before .before in
+    let p = k .before in
+    let a = p .before .before .before in
     let l = a .before .before in
     let z = l .before .before in
     let h = l .look-at .ensures in
     let e = a .answer .given .1 in
-    let g = h .look _ e in
-    let s = seen-zero _ _ _ _ (seen-is _ _ _ _ (g .2) e .1) (c .before .before .if1 .left) (c .before .if2 .taken) in
-    (s .0, g .1, change-bit _ _ _ _ _ h e, s .1, sized _ _ (z .sizes-of .ensures) (g .0))
+    let g = h .look _ e in (
+      (g .1, change-bit _ _ _ _ _ h e, sized _ _ (z .sizes-of .ensures) (g .0), seen-stage _ _ _ _ (seen-is _ _ _ _ (g .2) e .1)),
+      (p .plan-change .ensures .fits, place-zero (p .plan-change .result) _ (sym (k .check-place .ensures) ∙ t .enum-told .given .1)),
+    )
 
 returns-3 : tie.Need-returns-3
 returns-3 c =
-    let p = c .before .before in
-    let a = p .before .before .before .before .before .before in
-    told (p .change-stage0 .ensures ∙ change-passed _ _ _ _ _ (a .before .before .look-at .ensures) (a .answer .given .1))
-
-sub-change-stage : tie.Need-sub-change-stage
-sub-change-stage c =
-    let a = c .before .before .before .before .before .before in
+    let y = c .before .before in
+    let t = y .before .before .before in
+    let k = t .before .before in
+    let p = k .before in
+    let a = p .before .before .before in
     let l = a .before .before in
-    let e = a .answer .given .1 in
-    let s = seen-later _ _ _ _ (seen-is _ _ _ _ (l .look-at .ensures .look _ e .2) e .1) (c .before .before .before .if1 .left) (c .before .before .if2 .left) in
-    omega (arith, s .0 .stages-least)
-
-sub-change-stage-2 : tie.Need-sub-change-stage-2
-sub-change-stage-2 c =
-    let a = c .before .before .before .before .before .before in
-    let l = a .before .before in
-    let e = a .answer .given .1 in
-    let s = seen-later _ _ _ _ (seen-is _ _ _ _ (l .look-at .ensures .look _ e .2) e .1) (c .before .before .before .if1 .left) (c .before .before .if2 .left) in
-    omega (arith, s .2)
-
-change-stage-requires : tie.Need-change-stage-requires
-change-stage-requires c κs =
-    let a = c .before .before .before .before .before .before in
-    let l = a .before .before in
-    let z = l .before .before in
+    let o = l .before .before .before .before in
     let h = l .look-at .ensures in
     let e = a .answer .given .1 in
-    let g = h .look _ e in
-    let s = seen-later _ _ _ _ (seen-is _ _ _ _ (g .2) e .1) (c .before .before .before .if1 .left) (c .before .before .if2 .left) in
-    (s .0, g .1, change-bit _ _ _ _ _ h e, s .1, sized _ _ (z .sizes-of .ensures) (g .0))
-
-returns-4 : tie.Need-returns-4
-returns-4 c =
-    let p = c .before .before in
-    let a = p .before .before .before .before .before .before .before in
-    told (p .change-stage .ensures ∙ change-passed _ _ _ _ _ (a .before .before .look-at .ensures) (a .answer .given .1))
+    told (carried-done (o .args .settings) (o .args .sheet .now) (change-sound _ _ _ _ _ h e) (o .args .bit) _ _ (p .plan-change .result) _ _ _ (p .plan-change .ensures) (sym (k .check-place .ensures) ∙ t .enum-told .given .1) (y .carry .ensures .0) (y .carry .ensures .1)
+    ∙ change-passed _ _ _ _ _ h e)
 
 pub change-spec : {M : Type 1} → statement M
 change-spec =
@@ -90,14 +76,11 @@ change-spec =
     (λ c. search needs)
     (λ c. search needs)
     returns
-    change-plain-requires
+    plan-change-requires
+    (λ c κs. search needs)
+    (λ c. search needs)
     (λ c. search needs)
     returns-2
-    change-stage0-requires
+    carry-requires
     (λ c. search needs)
-    returns-3
-    sub-change-stage
-    sub-change-stage-2
-    change-stage-requires
-    (λ c. search needs)
-    returns-4)
+    returns-3)

@@ -5,7 +5,7 @@ use Rattle.rules.specs.Calls.{asCheck}
 use Rattle.laws.specs.Calls.{not-done}
 use Rattle.sheet.specs.Meaning.{LookAt}
 use Rattle.sheet.specs.CallLaws.{first-passed, look-refused, look-told, sized}
-use Rattle.sheet.specs.declared.layout.Sizes.{Sizes}
+use Rattle.plan.specs.declared.Sizes.{Sizes}
 use Rattle.sheet.proofs.look_at.Statement.{statement}
 use Rattle.sheet.proofs.look_at.Tie as tie
 
@@ -15,7 +15,7 @@ check-call-requires c κs = ap (λ (z : Sizes). z .blocks) (c .before .pre)
 returns : tie.Need-returns
 returns c =
     let k = c .before .before in
-    subst (LookAt _ _ _) (sym (c .no-look .ensures)) (look-refused _ _ _ _ (k .check-call .ensures) (not-done _ (c .before .match .keys2)))
+    subst (LookAt _ _ _) (sym (c .unseen .ensures)) (look-refused _ _ _ _ (k .check-call .ensures) (not-done _ (c .before .match .keys2)))
 
 check-sheet-requires : tie.Need-check-sheet-requires
 check-sheet-requires c κs =

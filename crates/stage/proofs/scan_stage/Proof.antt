@@ -14,10 +14,10 @@ use Rattle.stage.proofs.scan_stage.Statement.{statement}
 use Rattle.stage.proofs.scan_stage.Tie as tie
 
 abbrev Inv-loop : tie.InvT-loop
-Inv-loop stage cell cells batch len count w k top step none s₀ next₀ at₀ s next at = ScanAt stage cell k (len * top) count len cells top w batch (2 * (k - 1)) at next s
+Inv-loop stage region cells batch len count k top step none s₀ next₀ at₀ s next at = ScanAt stage k (len * top) count len cells region batch (2 * (k - 1)) at next s
 
 abbrev μ-loop : tie.MeasureT-loop
-μ-loop stage cell cells batch len count w k top step none s₀ next₀ at₀ s next at = count - at
+μ-loop stage region cells batch len count k top step none s₀ next₀ at₀ s next at = count - at
 
 cast-none : tie.Need-cast-none Inv-loop μ-loop
 cast-none c = omega (arith, count-most (c .before .before .before .pre))
@@ -48,7 +48,7 @@ returns : tie.Need-returns Inv-loop μ-loop
 returns c =
     let f = c .before .before .before in
     let v = f .before .before in
-    too-few (v .before .before .loop .inv) (v .before .loop-test .taken) (v .weight-of .ensures) (f .before .if1 .left) (f .next-index .ensures) (c .before .enum-told .given .1) (c .unsound .ensures)
+    too-few (v .before .before .loop .inv) (v .before .loop-test .taken) (v .weight-of .ensures) (f .before .if1 .left) (f .next-index .ensures) (c .before .enum-told .given .1) (c .unseen .ensures)
 
 -- the turn once the next index block is taken up
 turn : (c : tie.After-known-told Inv-loop μ-loop) →
@@ -56,7 +56,7 @@ turn : (c : tie.After-known-told Inv-loop μ-loop) →
     let v = f .before .before in
     let l = v .before .before in
     let a = l .before .before .before .before .before .args in
-    Turn (a .stage) (a .cell) (a .k) (a .len * a .top) (a .count) (a .len) (a .cells .now) (a .top) (a .w) (a .batch .now) (2 * (a .k - 1)) (l .loop .at) (c .before .slot .given .0 .0) (c .before .slot .given .0 .1 .0) (v .weight-of .result) (l .loop .s)
+    Turn (a .stage) (a .k) (a .len * a .top) (a .count) (a .len) (a .cells .now) (a .region) (a .batch .now) (2 * (a .k - 1)) (l .loop .at) (c .before .slot .given .0 .0) (c .before .slot .given .0 .1 .0) (v .weight-of .result) (l .loop .s)
 turn c =
     let f = c .before .before .before in
     let v = f .before .before in
@@ -91,7 +91,7 @@ returns-2 c =
     let t = c .before .before .before in
     let u = t .before .slot .given .0 .1 .0 in
     let z : u ≡ suc (u - 1) = omega arith in
-    ⊎-elim (λ w. too-great (turn t) (w .taken) (c .unsound2 .ensures)) (λ w. twice (turn t) (u - 1) z (omega (arith, w .0 .left)) (omega (arith, ltb-true, w .2 .taken)) (c .unsound2 .ensures)) (c .before .if4 .came)
+    ⊎-elim (λ w. too-great (turn t) (w .taken) (c .unseen2 .ensures)) (λ w. twice (turn t) (u - 1) z (omega (arith, w .0 .left)) (omega (arith, ltb-true, w .2 .taken)) (c .unseen2 .ensures)) (c .before .if4 .came)
 
 cast-s : tie.Need-cast-s Inv-loop μ-loop
 cast-s c = omega (arith, turn-small (c .before .before .before .before))

@@ -2,7 +2,7 @@
 use mathlib.Core.Path.{sym, ap, _∙_}
 use borrow.Author.Needs.{needs}
 use Rattle.rules.specs.Calls.{levelCheck}
-use Rattle.block.specs.Meaning.{asFound}
+use Rattle.cells.specs.Meaning.{asFound}
 use Rattle.sheet.proofs.checks.check_levels.Statement.{statement}
 use Rattle.sheet.proofs.checks.check_levels.Tie as tie
 
