@@ -1,4 +1,6 @@
 // One block: its shape, its state and its next step. Assumes nothing.
+#![tactic(auto)]
+
 ghost use Rattle.std.specs.Prelude.{◌≡◌, ◌+◌, ◌-◌, ◌*◌, ◌/◌, ◌%◌, ◌<◌, ◌≤◌, ◌++◌, length, take, drop};
 ghost use Rattle.std.proofs.Math.Decide.{dec_lt};
 ghost use Rattle.rules.specs.Accept.{most_bits};
@@ -8,7 +10,7 @@ ghost use Rattle.rules.specs.Block.{cycle, state_of};
 ghost use Rattle.block.specs.Meaning.{as_state, higher, shape_of};
 
 // A block's state; an active block has its bit and its weight.
-#[derive(Drop)]
+#[derive(Clone, Copy)]
 pub enum BlockState {
     Empty,
     Full,
@@ -18,7 +20,7 @@ pub enum BlockState {
 
 // A block's shape: how many cells are higher than the one before them, and the sum of their numbers; how many are above 0, and how many at the top level; the sum of all levels.
 // Each is a byte, so that many cells are looked at together; of the two sums it is what 256 leaves.
-#[derive(Drop)]
+#[derive(Clone, Copy)]
 struct Shape {
     rises: u8,
     start: u8,

@@ -1,4 +1,6 @@
 // Runs of cells: sums, levels, and blocks that are passed over many at a time. Assumes nothing.
+#![tactic(auto)]
+
 ghost use Rattle.std.specs.Prelude.{true, false, ◌≡◌, ◌+◌, ◌*◌, ◌/◌, ◌≤◌, min, length, take, replicate};
 ghost use Rattle.std.proofs.Math.Decide.{dec_lt};
 ghost use Rattle.rules.specs.Search.{pick};
@@ -9,7 +11,7 @@ ghost use Rattle.cells.specs.Meaning.{Leads, RunAt, RunFrom, greatest_of, least_
 const RUN: usize = 64;
 
 // What a look at the levels finds: none above the top level, or the first cell that is.
-#[derive(Drop)]
+#[derive(Clone, Copy)]
 pub enum Level {
     Fine,
     Above(usize),

@@ -1,4 +1,6 @@
 // The drive program: records of 8 bytes on standard input, one line for each on standard output as it comes. Assumes the C library's read and write.
+#![tactic(auto)]
+
 ghost use Rattle.std.specs.Prelude.{◌≡◌, ◌+◌, ◌-◌, ◌*◌, ◌/◌, ◌≤◌, ◌<◌, length, take, drop};
 ghost use Rattle.io.specs.Counts.{IsPrefixLen};
 ghost use Rattle.rules.specs.Input.{sheet_held, records_of, in_turn, OfInput, between, whole_bytes, turn_of, reading_of};
@@ -10,14 +12,14 @@ use rules::{Answer, Settings};
 const RECORD: usize = 8;
 
 // What the records of a piece leave: the settings held, and where the text of their lines ends.
-#[derive(Drop)]
+#[derive(Clone, Copy)]
 struct Piece {
     settings: Settings,
     end: usize,
 }
 
 // What a turn leaves: the settings held, where the text of its lines ends, and how many bytes wait.
-#[derive(Drop)]
+#[derive(Clone, Copy)]
 struct Turn {
     settings: Settings,
     end: usize,
@@ -25,7 +27,7 @@ struct Turn {
 }
 
 // What a reading brought: how many bytes, none at the end of the input, and whether it failed.
-#[derive(Drop)]
+#[derive(Clone, Copy)]
 struct Got {
     count: usize,
     failed: bool,

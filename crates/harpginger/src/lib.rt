@@ -1,4 +1,6 @@
 // The C interface: the four calls over numbers and lent bytes. A settings record crosses as seven numbers that the caller owns. Assumes nothing.
+#![tactic(auto)]
+
 ghost use Rattle.std.specs.Prelude.{◌≡◌};
 ghost use Rattle.rules.specs.Interface.{record_of};
 ghost use Rattle.rules.specs.Promises.{SettingsIntoPromise, EraseByPromise, ReadByPromise, ChangeByPromise, VersionPromise};

@@ -1,4 +1,6 @@
 // The index store: index blocks whose digits stand above a floor, each at most `step` levels; and the stage that a sheet's index cells are in. Assumes nothing.
+#![tactic(auto)]
+
 ghost use Rattle.std.specs.Prelude.{◌≡◌, suc, ◌+◌, ◌^◌, ◌≤◌, ◌<◌, length, replicate};
 ghost use Rattle.laws.specs.Differ.{apart};
 ghost use Rattle.plan.specs.Meaning.{Needs};
@@ -10,7 +12,7 @@ ghost use Rattle.index.specs.Meaning.{as_entry, as_found, BatchFits, Holds, Next
 use plan::Need;
 
 // What an index block says: its number, or that it is full.
-#[derive(Drop)]
+#[derive(Clone, Copy)]
 pub enum Index {
     Number(usize),
     Full,
@@ -121,7 +123,7 @@ pub fn need_entry(b: &[u8], floor: u8, step: u8, entry: Index) -> Need
 }
 
 // The index blocks of one stage: their first cell, the cells of each, the lowest level that the stage uses, and how many levels above it.
-#[derive(Drop)]
+#[derive(Clone, Copy)]
 pub struct Region {
     pub cell: usize,
     pub width: usize,
@@ -130,7 +132,7 @@ pub struct Region {
 }
 
 // The next index block that isn't full, and its number.
-#[derive(Drop)]
+#[derive(Clone, Copy)]
 pub enum Live {
     At(usize, usize),
     Nowhere,
@@ -154,7 +156,7 @@ pub fn next_index(batch: &[u8], region: Region, q: usize, from: usize) -> Live
 }
 
 // The stage that a sheet is in: how many stages are left there, or stage 0.
-#[derive(Drop)]
+#[derive(Clone, Copy)]
 pub enum Stage {
     Left(usize),
     Zero,

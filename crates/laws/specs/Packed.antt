@@ -1,5 +1,5 @@
 -- The two rules of 02, K3, over the states of blocks 0 to m - 1: an erased sheet keeps them, and so does every change. Assumes nothing.
-use Rattle.std.proofs.Math.Logic.{Dec·not-not}
+use Rattle.std.proofs.Math.Logic.Dec
 use Rattle.std.proofs.Common.{◌∙◌, ap, ap₂, subst, subst₂, sym, le_refl, not-suc-le-zero, arith}
 use Rattle.std.specs.Prelude.{◌≡◌, refl, ◌<◌, suc, zero, ℕ}
 use Rattle.std.proofs.Math.Decide.{ℕ_discrete}
@@ -17,7 +17,7 @@ EmptyOn m st = (j : ℕ) → j < m → (x : ℕ) → x < j → IsEmpty (st x) �
 
 -- so it is where there is no hole
 pub empty-on : (m : ℕ) (st : ℕ → State) → NoHole m st → EmptyOn m st
-empty-on m st h j l x q e = (Dec·not-not (is_empty? (st j))).0 (λ d. h j l x q (e, d))
+empty-on m st h j l x q e = (Dec.not-not (is_empty? (st j))).0 (λ d. h j l x q (e, d))
 
 -- and conversely
 pub on-empty : (m : ℕ) (st : ℕ → State) → EmptyOn m st → NoHole m st

@@ -74,7 +74,7 @@ module _ (W L : ℕ) where
       ∙ sym (ap (λ (j : ℕ). set (b ∷ bs) j (recorded L v (get_or (b ∷ bs) j []))) (pick_no (ℕ_discrete (sum b) W) _ _ n))
   turn_at {t} (v ∷ vs) (skip {bs = bs} b e r) h =
       record-full W L (take (suc t) (v ∷ vs)) b bs e
-      ∙ ap {B = List (List ℕ)} (λ l. b ∷ l) (turn_at (v ∷ vs) r h)
+      ∙ ap {B = List (List ℕ)} (λ l. b ∷ l) (turn_at {t = t} {bs = bs} (v ∷ vs) r h)
       ∙ sym (ap₂ (λ (l : List (List ℕ)) (j : ℕ). set l j (recorded L (get_or (v ∷ vs) t 0) (get_or (b ∷ bs) j []))) (record-full W L (take t (v ∷ vs)) b bs e) (block-full W t b bs e))
   turn_at (v ∷ vs) (past {t} {bs} b n r) h =
       pick_no (ℕ_discrete (sum b) W) _ _ n
@@ -120,7 +120,7 @@ module _ (W L : ℕ) where
       ∙ ap₂ (λ (x j : ℕ). pick (ℕ_discrete (sum (recorded L v (get_or (b ∷ bs) j []))) W) closed (index x)) q (sym (pick_no (ℕ_discrete (sum b) W) _ _ n))
   named-at {t} u (v ∷ vs) z (skip {bs = bs} b e r) h =
       ap (λ (es : List Entry). get_or es t z) (entries-full u (v ∷ vs) b bs e)
-      ∙ named-at u (v ∷ vs) z r h
+      ∙ named-at {t = t} {bs = bs} u (v ∷ vs) z r h
       ∙ ap (λ (j : ℕ). pick (ℕ_discrete (sum (recorded L (get_or (v ∷ vs) t 0) (get_or (b ∷ bs) j []))) W) closed (index (u + t))) (sym (block-full W t b bs e))
   named-at u (v ∷ vs) z (past {t} {bs} b n r) h =
       let q : suc u + t ≡ u + suc t = omega arith in

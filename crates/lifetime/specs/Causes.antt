@@ -2,7 +2,9 @@
 use Rattle.std.specs.Prelude.{◌≡◌, ◌↔◌, ◌⊎◌, List, ℕ, ◌+◌, ◌*◌, ◌^◌, ◌≤◌, ◌<◌, length, take, drop, replicate}
 use Rattle.std.proofs.Common.{sym, ◌∙◌, subst, subst₂, inl, inr, ⊎_elim, zero-le, arith}
 use Rattle.std.proofs.Math.Path.{ap}
-use Rattle.std.proofs.Math.Logic.{Iff·trans, Dec·not-not, dite}
+use Rattle.std.proofs.Math.Logic.{dite}
+use Rattle.std.proofs.Math.Logic.Iff
+use Rattle.std.proofs.Math.Logic.Dec
 use Rattle.rules.specs.Search.{not?, all?, Result, done, no_place_left}
 use Rattle.rules.specs.SearchLaws.{some-not}
 use Rattle.rules.specs.Cells.{sum, Low, block}
@@ -13,7 +15,8 @@ use Rattle.rules.specs.Staged.{Sheet, SheetOk}
 use Rattle.rules.specs.Batches.{batch_cells, index_cells}
 use Rattle.rules.specs.Accept.{Genuine, batch_start}
 use Rattle.rules.specs.AcceptLaws.{PlainFacts, StagedFacts, genuine-facts, genuine-plain}
-use Rattle.rules.specs.BatchLaws.{batch_from, StageIs, at-batch, at-0, stage-highest}
+use Rattle.rules.specs.BatchLaws.{batch_from, StageIs, at-batch, at-0}
+use Rattle.rules.proofs.BatchLaws.{stage-highest}
 use Rattle.rules.specs.Calls.{Check, Sound, change_sheet, changed, changing, change_call, Reading, read_call}
 use Rattle.rules.specs.Answer.{number_of}
 use Rattle.rules.specs.declared.Settings.{Settings}
@@ -50,7 +53,7 @@ some_pair : {Q : ℕ → ℕ → Type 0} → ((x j : ℕ) → Dec (Q x j)) → (
 some_pair {Q} q m n =
     let a : (j : ℕ) × (j < m) × ¬ ((x : ℕ) → x < j → ¬ (Q x j)) = some-not (λ j. all? (λ x. not? (q x j)) j) m n in
     let b : (x : ℕ) × (x < a.0) × ¬ (¬ (Q x a.0)) = some-not (λ x. not? (q x a.0)) a.0 a.2 in
-    (b.0, a.0, b.1, a.1, (Dec·not-not (q b.0 a.0)).0 b.2)
+    (b.0, a.0, b.1, a.1, (Dec.not-not (q b.0 a.0)).0 b.2)
 
 module _ (k m : ℕ) (st : ℕ → State) where
   -- one of K3's two rules is broken exactly if there is a hole, or a full block last after k active ones
@@ -228,19 +231,19 @@ module _ (r : Settings) (xs : List ℕ) (a : LevelsPass r xs) where
 
 -- a reading at stage 0 answers BadSheet exactly if there is a cause
 pub read-bad-sheet : (r : Settings) (xs out : List ℕ) → LevelsPass r xs → StageZero r xs → r.k ≤ length out → ((read_call r xs out).answer ≡ BadSheet) ↔ Cause r xs
-read-bad-sheet r xs out a z l = Iff·trans (read-breaks r xs a out l) (sheet-cause r xs a.genuine z)
+read-bad-sheet r xs out a z l = Iff.trans (read-breaks r xs a out l) (sheet-cause r xs a.genuine z)
 
 -- a change at stage 0 answers BadSheet exactly if there is a cause
 pub change-bad-sheet : (r : Settings) (xs : List ℕ) (i : ℕ) → LevelsPass r xs → StageZero r xs → i < r.k → ((change_call r xs i).answer ≡ BadSheet) ↔ Cause r xs
-change-bad-sheet r xs i a z l = Iff·trans (change-breaks r xs a i l) (sheet-cause r xs a.genuine z)
+change-bad-sheet r xs i a z l = Iff.trans (change-breaks r xs a i l) (sheet-cause r xs a.genuine z)
 
 -- where 01's own rules are kept a reading at stage 0 answers BadSheet exactly by a new cause
 pub read-new-causes : (r : Settings) (xs out : List ℕ) → LevelsPass r xs → StageZero r xs → Keeps01 r xs → r.k ≤ length out → ((read_call r xs out).answer ≡ BadSheet) ↔ NewCause r xs
-read-new-causes r xs out a z h l = Iff·trans (read-breaks r xs a out l) (new-causes r xs a.genuine z h)
+read-new-causes r xs out a z h l = Iff.trans (read-breaks r xs a out l) (new-causes r xs a.genuine z h)
 
 -- and so does a change
 pub change-new-causes : (r : Settings) (xs : List ℕ) (i : ℕ) → LevelsPass r xs → StageZero r xs → Keeps01 r xs → i < r.k → ((change_call r xs i).answer ≡ BadSheet) ↔ NewCause r xs
-change-new-causes r xs i a z h l = Iff·trans (change-breaks r xs a i l) (new-causes r xs a.genuine z h)
+change-new-causes r xs i a z h l = Iff.trans (change-breaks r xs a i l) (new-causes r xs a.genuine z h)
 
 -- ---- what keeps the two rules
 

@@ -20,7 +20,7 @@ use Rattle.rules.specs.PromiseLaws.{gives-done, gives-erase, by_number}
 use Rattle.rules.specs.Numbers.{marked}
 use Rattle.rules.specs.declared.Settings.{Settings}
 use Rattle.rules.specs.declared.Setup.{Setup}
-use Rattle.rules.specs.declared.Answer.TheVariants.{Done, Erase}
+use Rattle.rules.specs.declared.Answer.TheVariants.{Erase}
 use Rattle.laws.specs.Lists.{low-replicate, rises-still}
 use Rattle.laws.specs.PlainMaps.{Reads, from, none, bit_is}
 use Rattle.laws.specs.PlainSheet as P

@@ -1,7 +1,7 @@
 -- An accepted staged sheet need not have a past (02, K7 speaks of plain sheets alone): one at a later stage with too few levels in its blocks has none. Assumes nothing.
 use Rattle.std.specs.Prelude.{◌≡◌, List, ◌∷◌, ◌++◌, ℕ, ◌+◌, ◌-◌, ◌*◌, ◌%◌, ◌^◌, ◌≤◌, ◌<◌, length, replicate, take}
 use Rattle.std.proofs.Math.Path.{refl, subst}
-use Rattle.std.proofs.Common.{sym, ap, ◌∙◌, le_refl, arith}
+use Rattle.std.proofs.Common.{sym, ◌∙◌, le_refl, arith}
 use Rattle.std.proofs.Math.Decide.{ℕ_discrete, dec_le, dec_lt}
 use Rattle.rules.specs.Search.{Result, all?, done, first, no_place_left}
 use Rattle.rules.specs.Cells.{block, first_above, same?, sum, tabulate}
@@ -13,7 +13,8 @@ use Rattle.rules.specs.Batches.{batch, decode, entry_of, number}
 use Rattle.rules.specs.Batches as B
 use Rattle.rules.specs.Accept.{Genuine, accept, accept_staged, batch_start, genuine?, index_width, reported, same_settings?, stages_of}
 use Rattle.rules.specs.AcceptLaws.{StagedFacts, genuine-staged}
-use Rattle.rules.specs.BatchLaws.{StageIs, at-batch, at-0, batch_from, stage-highest}
+use Rattle.rules.specs.BatchLaws.{StageIs, at-batch, at-0, batch_from}
+use Rattle.rules.proofs.BatchLaws.{stage-highest}
 use Rattle.rules.specs.Calls.{Pass, change_checks, sound?}
 use Rattle.rules.specs.declared.Settings.{Settings}
 use Rattle.laws.specs.Lists.{rises-sum}

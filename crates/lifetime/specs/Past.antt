@@ -1,8 +1,8 @@
 -- Every accepted plain sheet has a past (02, K7): the checks pass on a sheet if and only if some run of accepted changes from an erased one ends in it. Assumes nothing.
 -- That an accepted staged sheet has a past is not claimed: NoPast.antt has one that has none.
-use Rattle.std.specs.Prelude.{◌≡◌, refl, ◌↔◌, ◌⊎◌, List, [], ◌∷◌, ◌++◌, ℕ, suc, ◌+◌, ◌≤◌, ◌<◌, length, replicate}
+use Rattle.std.specs.Prelude.{◌≡◌, refl, ◌↔◌, ◌⊎◌, List, [], ◌∷◌, ◌++◌, ℕ, suc, ◌≤◌, ◌<◌, length, replicate}
 use Rattle.std.proofs.Common.{sym, ap, ◌∙◌, subst, inl, inr, ⊎_elim, arith, length-append}
-use Rattle.std.proofs.Math.Logic.{Iff·trans}
+use Rattle.std.proofs.Math.Logic.Iff
 use Rattle.std.proofs.lemmas.List.{length-replicate}
 use Rattle.rules.specs.Search.{Result, done, no_place_left}
 use Rattle.rules.specs.Cells.{sum}
@@ -80,11 +80,11 @@ has-past r z xs = (
 module _ (r : Settings) (z : r.kind ≡ 0) (xs : List ℕ) where
   -- the checks of a change of an existing bit pass exactly if the sheet has a past
   pub change-past : (i : ℕ) → i < r.k → (change_checks r xs i ≡ Pass) ↔ HasPast r xs
-  change-past i l = Iff·trans (λ e. (checked-holds (change-checks r xs i) e).0, λ a. change-passes r xs i a l) (has-past r z xs)
+  change-past i l = Iff.trans (λ e. (checked-holds (change-checks r xs i) e).0, λ a. change-passes r xs i a l) (has-past r z xs)
 
   -- the checks of a reading into k places or more pass exactly if the sheet has a past
   pub read_past : (out : List ℕ) → r.k ≤ length out → (read_checks r xs out ≡ Pass) ↔ HasPast r xs
-  read_past out l = Iff·trans (λ e. (checked-holds (read-checks r xs out) e).0, λ a. read-passes r xs out a l) (has-past r z xs)
+  read_past out l = Iff.trans (λ e. (checked-holds (read-checks r xs out) e).0, λ a. read-passes r xs out a l) (has-past r z xs)
 
 -- ---- with the number of changes
 
@@ -99,25 +99,25 @@ past-counted r z xs = (λ h. (h.0, past-sum r z h.1, h.1), λ h. (h.0, h.2))
 module _ (r : Settings) (z : r.kind ≡ 0) (xs : List ℕ) where
   -- the checks of a change of an existing bit pass exactly if some run of as many changes as the levels sum to ends in the sheet
   pub change-past-sum : (i : ℕ) → i < r.k → (change_checks r xs i ≡ Pass) ↔ PastOf r (sum xs) xs
-  change-past-sum i l = Iff·trans (change-past r z xs i l) (past-counted r z xs)
+  change-past-sum i l = Iff.trans (change-past r z xs i l) (past-counted r z xs)
 
   -- the checks of a reading into k places or more pass exactly if some run of as many changes as the levels sum to ends in the sheet
   pub read-past-sum : (out : List ℕ) → r.k ≤ length out → (read_checks r xs out ≡ Pass) ↔ PastOf r (sum xs) xs
-  read-past-sum out l = Iff·trans (read_past r z xs out l) (past-counted r z xs)
+  read-past-sum out l = Iff.trans (read_past r z xs out l) (past-counted r z xs)
 
 -- ---- by the answers
 
 module _ (r : Settings) (z : r.kind ≡ 0) (xs : List ℕ) where
   -- a reading into k places or more is answered Done exactly if the sheet has a past
   pub done-past : (out : List ℕ) → r.k ≤ length out → (number_of (read_call r xs out).answer ≡ 0) ↔ HasPast r xs
-  done-past out l = Iff·trans (
+  done-past out l = Iff.trans (
     λ e. (read-done-places r xs out _ (zero-done (read_call r xs out).answer e)).accepted,
     λ a. ap (λ (o : Reading). number_of o.answer) (read-gives r xs out a l),
   ) (has-past r z xs)
 
   -- a change of an existing bit is answered Done or Erase exactly if the sheet has a past
   pub answered-past : (i : ℕ) → i < r.k → (((v : ℕ) × ((change_call r xs i).answer ≡ Done v)) ⊎ ((change_call r xs i).answer ≡ Erase)) ↔ HasPast r xs
-  answered-past i l = Iff·trans (⊎_elim (λ h. (change-made r xs i h.0 h.1).accepted) (λ h. (erase-tells r xs i h).accepted), λ a. given a (change_sheet r xs i) refl) (has-past r z xs)
+  answered-past i l = Iff.trans (⊎_elim (λ h. (change-made r xs i h.0 h.1).accepted) (λ h. (erase-tells r xs i h).accepted), λ a. given a (change_sheet r xs i) refl) (has-past r z xs)
     where
       given : Accepted r xs → (q : Result (List ℕ)) → change_sheet r xs i ≡ q → ((v : ℕ) × ((change_call r xs i).answer ≡ Done v)) ⊎ ((change_call r xs i).answer ≡ Erase)
       given a (done ys) e = inl (_, ap (λ (o : Outcome). o.answer) (done-answered r xs ys i a l e))
@@ -130,11 +130,11 @@ module _ (r : Settings) (z : r.kind ≡ 0) (xs : List ℕ) where
 
     -- where checks 1, 2 and 5 pass, a reading into k places or more answers BadSheet exactly if the sheet has no past
     pub read-no-past : (out : List ℕ) → r.k ≤ length out → ((read_call r xs out).answer ≡ BadSheet) ↔ ¬ (HasPast r xs)
-    read-no-past out l = Iff·trans (read-breaks r xs a out l) no-past
+    read-no-past out l = Iff.trans (read-breaks r xs a out l) no-past
 
     -- where checks 1, 2 and 5 pass, a change of an existing bit answers BadSheet exactly if the sheet has no past
     pub change-no-past : (i : ℕ) → i < r.k → ((change_call r xs i).answer ≡ BadSheet) ↔ ¬ (HasPast r xs)
-    change-no-past i l = Iff·trans (change-breaks r xs a i l) no-past
+    change-no-past i l = Iff.trans (change-breaks r xs a i l) no-past
 
 -- of either kind at stage 0: a sheet that breaks one of K3's two rules has no past
 pub new-cause-no-past : (r : Settings) (xs : List ℕ) → StageZero r xs → NewCause r xs → ¬ (HasPast r xs)

@@ -7,7 +7,7 @@ use Rattle.rules.specs.AcceptLaws.{genuine-plain}
 use Rattle.rules.specs.Calls.{change_call}
 use Rattle.rules.specs.declared.Settings.{Settings}
 use Rattle.rules.specs.declared.Answer.TheVariants.{Done}
-use Rattle.laws.specs.Lists.{rises-sum, rises-still}
+use Rattle.laws.specs.Lists.{rises-still}
 use Rattle.laws.specs.PlainSheet as P
 use Rattle.lifetime.specs.Change.{Made, change-made, plain-law}
 

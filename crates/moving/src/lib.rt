@@ -1,5 +1,7 @@
 // The move to a stage: the live parity blocks record the values of the bits after the change, and the stage's index blocks are set.
 // A route is worked out first, by a pass that only reads; what the move needs, and the move itself, follow the route. Assumes nothing.
+#![tactic(auto)]
+
 ghost use Rattle.std.specs.Prelude.{◌≡◌, ◌-◌, ◌*◌, ◌%◌, ◌≤◌, get_or};
 ghost use Rattle.std.proofs.Math.Decide.{ℕ_discrete};
 ghost use Rattle.index.specs.Meaning.{as_entry};
@@ -18,7 +20,7 @@ use rules::MOST_BITS;
 
 // The route of a move: how many parity blocks of the stage aren't full; and for each of the first of these, which record the values of the bits in turn,
 // its number among the parity blocks and its mark. Mark 0: it stays, as its parity is the value; 1: it is raised by one; 2: it is raised by one and is full then.
-#[derive(Drop)]
+#[derive(Clone, Copy)]
 pub struct Route {
     pub live: usize,
     pub places: [u16; MOST_BITS],
@@ -26,7 +28,7 @@ pub struct Route {
 }
 
 // The parity blocks of a stage: how many cells one has, and how many there are.
-#[derive(Drop)]
+#[derive(Clone, Copy)]
 pub struct ParityBlocks {
     pub len: usize,
     pub count: usize,

@@ -1,4 +1,6 @@
 // Parity blocks: one raised, how many are live, and the first later stage with room. Assumes nothing.
+#![tactic(auto)]
+
 ghost use Rattle.std.specs.Prelude.{◌≡◌, ◌+◌, ◌*◌, ◌≤◌, length};
 ghost use Rattle.rules.specs.Cells.{Low, block, store, chop};
 ghost use Rattle.rules.specs.Stage.{raise, live_weights};
@@ -54,7 +56,7 @@ pub fn count_live(cells: &[u8], len: usize, count: usize, top: u8) -> usize
 }
 
 // A later stage with room, told by how many stages are left there, or nowhere.
-#[derive(Drop)]
+#[derive(Clone, Copy)]
 pub enum Later {
     Left(usize),
     Nowhere,

@@ -1,4 +1,6 @@
 // Plain sheets, and the m blocks of a staged one at stage 0: the look at the blocks, and the plan of a change. Assumes nothing.
+#![tactic(auto)]
+
 pub mod kind0;
 
 ghost use Rattle.std.specs.Prelude.{true, false, ◌≡◌, ◌+◌, ◌*◌, ◌/◌, ◌≤◌, ◌<◌, ◌++◌, length, take, drop};

@@ -1,4 +1,6 @@
 // One record of the drive program: what it asks for, and what the library makes of it. Assumes nothing.
+#![tactic(auto)]
+
 ghost use Rattle.std.specs.Prelude.{◌≡◌, ◌≤◌, ◌<◌, length, get_or};
 ghost use Rattle.rules.specs.Answer.{number_of, value_of};
 ghost use Rattle.rules.specs.Calls.{as_check};

@@ -2,7 +2,7 @@
 use Rattle.std.specs.Prelude.{◌≡◌, ℕ, ◌+◌, ◌-◌, ◌*◌, ◌^◌, ◌≤◌, ◌<◌}
 use Rattle.std.proofs.Common.{⊎_elim, mul-le-mul, mul-le-mul_left, mul-le-mul_right, le_trans, arith, pow_mono}
 use Rattle.std.proofs.Math.Decide.{dec_le, dec_lt}
-use Rattle.rules.specs.Search.{both?, at}
+use Rattle.rules.specs.Search.{both?}
 use Rattle.rules.specs.SearchLaws.{pick_yes, pick_no}
 use Rattle.rules.specs.Batches.{batch_cells, index_cells}
 use Rattle.rules.specs.Accept.{most_bits, most_top, most_cells, most_stages, Genuine, genuine?, guarantee, reported, batch_start}

@@ -1,4 +1,6 @@
 // The types that every crate shares: the settings of a sheet and the answer of a call. Assumes nothing.
+#![tactic(auto)]
+
 ghost use Rattle.rules.specs.Promises.{NumberPromise, ValuePromise};
 
 mod acceptance;
@@ -7,7 +9,7 @@ mod acceptance;
 pub const MOST_BITS: usize = 64;
 
 // Settings as acceptance gives them: what was asked for, and m blocks, s stages and index width w worked out.
-#[derive(Drop)]
+#[derive(Clone, Copy)]
 pub struct Settings {
     pub kind: usize,
     pub k: usize,
@@ -30,7 +32,7 @@ pub const REFUSED: Settings = Settings {
 };
 
 // What a call answers, with its value where it has one.
-#[derive(Drop)]
+#[derive(Clone, Copy)]
 pub enum Answer {
     Done(usize),
     BadShape,
@@ -44,7 +46,7 @@ pub enum Answer {
 }
 
 // What settings come to: the answer and the record, of zeros where they are refused.
-#[derive(Drop)]
+#[derive(Clone, Copy)]
 pub struct Setup {
     pub answer: Answer,
     pub settings: Settings,

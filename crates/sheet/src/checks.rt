@@ -12,7 +12,7 @@ use plan::Plan;
 use rules::{Answer, Settings};
 
 // What a call asks for itself: places of the output, or a bit.
-#[derive(Drop)]
+#[derive(Clone, Copy)]
 pub enum Asked {
     Places(usize),
     Bit(usize),

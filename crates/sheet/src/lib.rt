@@ -1,4 +1,6 @@
 // The library: erase, read and change a sheet of accepted settings. Every call answers for any settings, levels and bit. Assumes nothing.
+#![tactic(auto)]
+
 mod checks;
 
 ghost use Rattle.std.specs.Prelude.{◌≡◌, ◌+◌, ◌-◌, ◌%◌, ◌≤◌, ◌<◌, get_or};

@@ -1,4 +1,6 @@
 // One stage from 1 up: its check and every bit's block, in one pass over its parity blocks; and the plan of a change in it. Assumes nothing.
+#![tactic(auto)]
+
 ghost use Rattle.std.specs.Prelude.{◌≡◌, ◌+◌, ◌-◌, ◌*◌, ◌≤◌, ◌<◌, length};
 ghost use Rattle.rules.specs.Accept.{most_bits};
 ghost use Rattle.rules.specs.Cells.{sum, block, chop};

@@ -1,0 +1,2 @@
+-- Laws of the rules that no definition and no contract cites.
+pub mod BatchLaws
