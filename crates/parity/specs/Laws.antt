@@ -1,5 +1,5 @@
 -- Laws of a block as a part of the cells, of blocks passed over in runs, and of the later stage. Assumes nothing.
-use Rattle.std.specs.Prelude.{List, ◌++◌, ◌≡◌, refl, drop, length, set, take}
+use Rattle.std.specs.Prelude.{List, ◌++◌, ◌≡◌, refl, drop, length, take}
 use Rattle.std.proofs.Common.{◌∙◌, sym, mul-le-mul_left, pow-suc, drop-drop}
 use Rattle.std.proofs.Math.Path.{ap}
 use Prim.Native.Nat.{◌*◌, ◌+◌, ◌-◌, ◌/◌, ◌<◌, ◌^◌, ◌≤◌, suc, zero, ℕ}

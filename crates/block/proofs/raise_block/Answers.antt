@@ -1,0 +1,15 @@
+-- `block::raise_block` meets its contract: the part lent on, put back, is the sheet with that block stored. Assumes nothing.
+use Rattle.std.proofs.Common.{◌+◌, ◌∙◌, arith, length-drop, length-take}
+use Rattle.rules.specs.Block.{cycle}
+use Rattle.block.proofs.LentLaws.{lent_back, lent-block}
+use Rattle.block.proofs.raise_block.Goals as goal
+
+pub raise_step-requires : goal.raise_step-requires
+raise_step-requires c =
+    let a = c.args in
+    record { le_k = simp (length-take, length-drop) (omega arith); part_value = lent-block a.k a.sheet.now a.j ∙ c.requires.j_value }
+
+pub returns : goal.returns
+returns c =
+    let a = c.args in
+    rw c.raise_step.ensures (lent_back a.k a.sheet.now a.j (cycle a.k a.top a.bit (a.weight + 1)))
