@@ -66,28 +66,40 @@ order-empty (past e f b a r h) l q = absurd (omega arith)
 
 -- ---- what the order of all blocks says
 
+-- the first empty block, once every block is looked at
+order-first-at : {st : ℕ → State} {m j e : ℕ} {f : Bool} → Ordered st m j e f → j ≡ m → Place (λ y. IsEmpty (st y)) m m e
+order-first-at {st} (used j f a h) q = none (subst (λ (x : ℕ). (y : ℕ) → y < x → ¬ (IsEmpty (st y))) q a)
+order-first-at (past e f b a r h) q = some e b (r e (omega arith) b) a
+
 -- the first empty block
 pub order-first : {st : ℕ → State} {m e : ℕ} {f : Bool} → Ordered st m m e f → Place (λ y. IsEmpty (st y)) m m e
-order-first (used m f a h) = none a
-order-first (past e f b a r h) = some e b (r e (omega arith) b) a
+order-first o = order-first-at o refl
 
--- no hole
-pub order-hole : {st : ℕ → State} {m e : ℕ} {f : Bool} → Ordered st m m e f → NoHole m st
-order-hole (used m f a h) j l x q o = a x (omega arith) o.0
-order-hole (past e f b a r h) j l x q o =
+-- no hole, once every block is looked at
+order-hole-at : {st : ℕ → State} {m j e : ℕ} {f : Bool} → Ordered st m j e f → j ≡ m → NoHole m st
+order-hole-at (used i f a h) p j l x q o = a x (omega arith) o.0
+order-hole-at (past e f b a r h) p j l x q o =
     let d : ¬ (x < e) = λ c. a x c o.0 in
     o.1 (r j (omega arith) l)
 
--- whether the last block in use is full
-pub order-ends : {st : ℕ → State} {m e : ℕ} {f : Bool} → Ordered st m m e f → Ends st m f
-order-ends (used m f a h) = h
-order-ends {st} {m} (past e f b a r h) =
+-- no hole
+pub order-hole : {st : ℕ → State} {m e : ℕ} {f : Bool} → Ordered st m m e f → NoHole m st
+order-hole o = order-hole-at o refl
+
+-- whether the last block in use is full, once every block is looked at
+order-ends-at : {st : ℕ → State} {m j e : ℕ} {f : Bool} → Ordered st m j e f → j ≡ m → Ends st m f
+order-ends-at {st} (used j f a h) q = subst (λ (x : ℕ). Ends st x f) q h
+order-ends-at {st} {m} (past e f b a r h) q =
     let s : last_used st m ≡ last_used st e = run-keeps (λ y. last_used st y ≡ last_used st e) e m (omega arith) (λ y c d q. last-before st y (r y c d) ∙ q) refl in
     go f h s
   where
     go : (f : Bool) → Ends st e f → last_used st m ≡ last_used st e → Ends st m f
     go true h s = subst IsFull (sym s) h
     go false h s = λ q. h (subst IsFull s q)
+
+-- whether the last block in use is full
+pub order-ends : {st : ℕ → State} {m e : ℕ} {f : Bool} → Ordered st m m e f → Ends st m f
+order-ends o = order-ends-at o refl
 
 -- ---- blocks that weigh nothing
 
