@@ -1,4 +1,4 @@
-// The drive program: records of 8 bytes on standard input, one line for each on standard output as it comes. Assumes the C library's read and write.
+// The drive program: records of 8 bytes on standard input, one line for each on standard output as it comes. Assumes the system's read and write.
 #![tactic(auto)]
 
 ghost use Rattle.std.specs.Prelude.{◌≡◌, ◌+◌, ◌-◌, ◌*◌, ◌/◌, ◌≤◌, ◌<◌, length, take, drop};
@@ -7,6 +7,7 @@ ghost use Rattle.rules.specs.Input.{sheet_held, records_of, in_turn, OfInput, be
 ghost use Rattle.records.specs.Meaning.{Front};
 
 use rules::{Answer, Settings};
+use std::io::{Read, Stdin};
 
 // The bytes of a record.
 const RECORD: usize = 8;
@@ -210,15 +211,19 @@ fn take_reading(
 }
 
 // One reading, after the bytes that wait, which stay as they are.
-fn read_more(bytes: &mut [u8], waiting: usize) -> Got
+fn read_more(stdin: &mut Stdin, bytes: &mut [u8], waiting: usize) -> Got
     requires { waiting ≤ length bytes.old }
     ensures { (waiting + result.count ≤ length bytes.new) × (take waiting bytes.new ≡ take waiting bytes.old) }
 {
-    let got = libc::read(0, &mut bytes[waiting..]);
-    let count = io::count(got, &bytes[waiting..]);
-    Got {
-        count,
-        failed: got < 0,
+    match stdin.read(&mut bytes[waiting..]) {
+        Ok(count) => Got {
+            count,
+            failed: false,
+        },
+        Err(_) => Got {
+            count: 0,
+            failed: true,
+        },
     }
 }
 
@@ -232,7 +237,7 @@ fn write_lines(text: &[u8]) -> bool {
 }
 
 // Turn after turn until the input ends, cannot be read, or its lines cannot be written. What is then held is what some input leaves: which one can't be said, since read promises nothing of the bytes it puts there.
-fn follow(bytes: &mut [u8], cells: &mut [u8], out: &mut [u8]) -> Settings
+fn follow(stdin: &mut Stdin, bytes: &mut [u8], cells: &mut [u8], out: &mut [u8]) -> Settings
     requires { (length bytes.old ≡ 512) × (length out.old ≡ 8192) }
     ensures { OfInput cells.old result cells.new }
 {
@@ -240,7 +245,7 @@ fn follow(bytes: &mut [u8], cells: &mut [u8], out: &mut [u8]) -> Settings
     let mut waiting: usize = 0;
     let mut turns = u64::MAX;
     while turns > 0 {
-        let got = read_more(bytes, waiting);
+        let got = read_more(stdin, bytes, waiting);
         if got.failed {
             io::write_all(2, b"drive: the input cannot be read\n");
             return held;
@@ -261,9 +266,10 @@ fn follow(bytes: &mut [u8], cells: &mut [u8], out: &mut [u8]) -> Settings
 }
 
 // 64 records at a time, and room for their lines. At first there is no sheet, and the record of zeros is held.
-fn main() {
+fn main(rt: HostRuntime) {
+    let mut stdin = rt.stdin();
     let mut space = [0u8; 16384];
     let mut input = [0u8; 512];
     let mut output = [0u8; 8192];
-    follow(&mut input, &mut space, &mut output);
+    follow(&mut stdin, &mut input, &mut space, &mut output);
 }

@@ -9,8 +9,8 @@ use native.Mathlib.Omega.{arith}
 use Rattle.rules.specs.Search.{Found, at, nowhere}
 use Rattle.rules.specs.SearchLaws.{pick-elim}
 use Rattle.rules.specs.Cells.{Low, sum, tabulate, chop}
-use Rattle.rules.specs.Staged.{parity_length, parity_count, live_count, after, later, change, move_to, written, change_cells}
-use Rattle.rules.specs.Batches.{batch_cells, batch, write}
+use Rattle.rules.specs.Staged.{parity_length, parity_count, live_count, after, move_to, written, change_cells}
+use Rattle.rules.specs.Batches.{batch_cells, write}
 use Rattle.rules.specs.AcceptLaws.{StagedFacts, staged-bits}
 use Rattle.rules.specs.Calls.{change_sheet}
 use Rattle.rules.specs.declared.Settings.{Settings}
