@@ -1,0 +1,2 @@
+-- Laws that the proofs of this crate alone cite.
+pub mod PlanLaws
