@@ -1,11 +1,10 @@
 -- Laws of an input's records: however it comes in pieces, the program's turns come to its records in turn; and what is then held. Assumes nothing.
-use Rattle.std.specs.Prelude.{◌≡◌, refl, List, [], ◌∷◌, ◌++◌, ℕ, ◌+◌, ◌*◌, ◌/◌, ◌%◌, ◌-◌, ◌≤◌, ◌<◌, length, take, drop}
-use Rattle.std.proofs.Common.{sym, ap, ap₂, ◌∙◌, subst, append_assoc, append-nil, arith, length-append, length-drop, take-append-drop, length-take-le, take_at, drop_at, drop-drop}
+use Rattle.std.specs.Prelude.{◌≡◌, refl, List, [], ◌∷◌, ◌++◌, ℕ, ◌+◌, ◌*◌, ◌/◌, ◌%◌, ◌≤◌, ◌<◌, length, take, drop}
+use Rattle.std.proofs.Common.{sym, ap, ap₂, ◌∙◌, subst, append_assoc, append-nil, arith, length-append, length-drop, take-append-drop, length-take-le, take_at, drop_at}
 use Rattle.std.proofs.Math.Seq.{take-append-add, drop-append-add}
 use Rattle.rules.specs.Cells.{chop, join}
 use Rattle.rules.specs.Accept.{refused}
-use Rattle.rules.specs.Records.{record_step}
-use Rattle.rules.specs.Input.{SheetHeld, sheet_held, after_record, records_of, in_turn, OfInput, Between, between, whole_bytes, turn_of, turns_of, at_end}
+use Rattle.rules.specs.Input.{SheetHeld, sheet_held, after_record, records_of, in_turn, OfInput, between, whole_bytes, turn_of, turns_of, at_end}
 use Rattle.rules.specs.declared.Settings.{Settings}
 use Rattle.laws.specs.Parts.{chop-add, chop-take}
 use Rattle.records.specs.HeldLaws.{Holding, Reached, at_first, after_one, reached-holds}
