@@ -1,5 +1,5 @@
 -- Laws of the program's loop: a record more, a turn more, and the end. Assumes nothing.
-use Rattle.std.specs.Prelude.{◌≡◌, refl, List, [], ◌∷◌, ◌++◌, ℕ, zero, suc, min, ◌+◌, ◌*◌, ◌/◌, ◌-◌, ◌≤◌, ◌<◌, length, get_or, take, drop, set}
+use Rattle.std.specs.Prelude.{◌≡◌, refl, List, [], ◌∷◌, ◌++◌, ℕ, zero, suc, min, ◌+◌, ◌-◌, ◌≤◌, ◌<◌, length, get_or, take, drop, set}
 use Rattle.std.proofs.Common.{sym, ap, ap₂, ◌∙◌, subst, not-suc-le-zero, arith, add-one, length-take, length-drop, length-take-le, take-take, take-suc, take-suc-set, drop-set-lt, drop-drop, get_or-drop, take-add}
 use Rattle.rules.specs.Accept.{refused}
 use Rattle.rules.specs.Cells.{chop, join}

@@ -3,9 +3,7 @@ use Prim.Native.Nat.{ℕ, ◌-◌, ◌^◌, ◌≤◌, ◌<◌}
 use native.Mathlib.Nat.{pow-le-pow_right}
 use native.Mathlib.Decide.{dec_le}
 use native.Mathlib.Omega.{arith}
-use borrow.Author.Rules.{rules}
-use Rattle.drive.proofs.digits_of.Statement.{statement}
-use Rattle.drive.proofs.digits_of.Tie as tie
+use Rattle.drive.proofs.digits_of.Goals as goal
 
 -- fewer digits than 21, as 10 ^ 20 is more
 few : (v k : ℕ) → v < 2 ^ 64 → (1 < k → 10 ^ (k - 1) ≤ v) → k ≤ 20
@@ -19,13 +17,7 @@ few v k h f = go (dec_le k 20)
         let c : 1 ≤ 10 = omega arith in
         absurd (omega (arith, f a, pow-le-pow_right c b))
 
-decimal-requires : tie.Need-decimal-requires
-decimal-requires c κs = search rules
-
-returns : tie.Need-returns
+pub returns : goal.returns
 returns c =
     let d = c.decimal.ensures in
-    (few _ _ c.before.before.ranges.value.fits d.1.0.2, d.0)
-
-pub digits-of-spec : {M : Type 1} → statement M
-digits-of-spec = tie.close (tie.spec decimal-requires returns)
+    (few _ _ c.ranges.value.fits d.len.2, d.in_bounds)
