@@ -4,7 +4,7 @@
 usage: tools/respell.py [--list]     at the top of the repository, once, after the kit's port.py; --list prints the names and changes nothing
 
 Words of a name that a dash joins are turned one by one. Names of types and modules stay in camel case, a letter of a formula (kL, aL) stays as it is.
-Where two names would fall together, nothing is written and both are printed.
+Where two names would become one, nothing is written and both are printed; a new name that stands somewhere already is printed too.
 """
 
 import glob

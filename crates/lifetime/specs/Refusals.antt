@@ -16,7 +16,7 @@ use Rattle.rules.specs.Answer.{number_of, value_of}
 use Rattle.rules.specs.declared.Settings.{Settings}
 use Rattle.rules.specs.declared.Answer.{Answer}
 use Rattle.rules.specs.declared.Answer.TheVariants.{Done, BadShape, BadLength, ShortOutput, BadBit, BadLevel, BadSheet, Erase}
-use Rattle.laws.specs.Lists.{get_d_past, get_d_tabulate, length-tabulate, low-all}
+use Rattle.laws.specs.Lists.{get_or-past, get_or-tabulate, length-tabulate, low-all}
 use Rattle.laws.specs.PlainSheet as P
 use Rattle.laws.specs.Calls.{Accepted, ask-fails, ask-passes, then-ends, then-goes, level-passes, read-passes, erase-passes, rest_checks, erase-first, change-first, read_first}
 use Rattle.lifetime.specs.Change.{erase-answered, done-answered}
@@ -430,7 +430,7 @@ read-written : (r : Settings) (xs out : List ℕ) → Accepted r xs → r.k ≤ 
 read-written r xs out a l =
     let n : length (bits_of r xs) ≡ r.k = length-tabulate r.k (read_bit r xs) in
     let at-bit : (i : ℕ) → i < r.k → get_or (bits_of r xs ++ drop r.k out) i 0 ≡ read_bit r xs i = λ i h.
-    get_or-append (bits_of r xs) (drop r.k out) 0 i (subst (λ (x : ℕ). i < x) (sym n) h) ∙ get_d_tabulate r.k i (read_bit r xs) h in
+    get_or-append (bits_of r xs) (drop r.k out) 0 i (subst (λ (x : ℕ). i < x) (sym n) h) ∙ get_or-tabulate r.k i (read_bit r xs) h in
     record {
       accepted = a;
       room = l;
@@ -443,7 +443,7 @@ read-written r xs out a l =
     past : (c : ℕ) → r.k ≤ c → length (bits_of r xs) ≡ r.k → get_or (bits_of r xs ++ drop r.k out) c 0 ≡ get_or out c 0
     past c h n =
         let e : r.k + (c - length (bits_of r xs)) ≡ c = omega arith in
-        get_d_past (bits_of r xs) (drop r.k out) c 0 (omega arith) ∙ get_or-drop r.k out (c - length (bits_of r xs)) 0 ∙ ap (λ (x : ℕ). get_or out x 0) e
+        get_or-past (bits_of r xs) (drop r.k out) c 0 (omega arith) ∙ get_or-drop r.k out (c - length (bits_of r xs)) 0 ∙ ap (λ (x : ℕ). get_or out x 0) e
 
 -- read: an answer Done writes bit i at place i, 0 or 1, and touches no place after the first k
 pub read-done-places : (r : Settings) (xs out : List ℕ) (v : ℕ) → (read_call r xs out).answer ≡ Done v → ReadDone r xs out v (read_call r xs out).places

@@ -12,7 +12,7 @@ use Rattle.std.proofs.Math.ListN.{get_or, length, length-append, length-replicat
 use Rattle.std.proofs.Math.Pow.{pow_pos}
 use Rattle.laws.specs.Chop.{chop-join, chop-sized, join-chop, length-chop, length-join, length-record, low-join, sum-join, sums-chop}
 use Rattle.laws.specs.Halve.{plain-live}
-use Rattle.laws.specs.Lists.{get_d_tabulate, length-tabulate, sum-replicate}
+use Rattle.laws.specs.Lists.{get_or-tabulate, length-tabulate, sum-replicate}
 use Rattle.laws.specs.Parity.{count-width, even-width, half-live, half-power, stage0-few}
 use Rattle.laws.specs.Record.{length-entries, record-sized}
 use Rattle.laws.specs.Stage.{Forth, Sized, Used, full-sums, names-few, record-le, sums, used-append}
@@ -206,8 +206,8 @@ module _ (s m L : ℕ) where
       rises = subst (λ (r : List ℕ). Rises r (block_cells y)) (sym same) h.1.0;
       onward = omega (arith, h.1.1);
       forward = forward-later x y h.1.1;
-      flips = h.2 i here ∙ get_d_tabulate (2 ^ s) i f here ∙ pick_yes (ℕ_discrete i i) _ _ refl;
-      keeps = λ b l d. h.2 b l ∙ get_d_tabulate (2 ^ s) b f l ∙ pick_no (ℕ_discrete b i) _ _ d;
+      flips = h.2 i here ∙ get_or-tabulate (2 ^ s) i f here ∙ pick_yes (ℕ_discrete i i) _ _ refl;
+      keeps = λ b l d. h.2 b l ∙ get_or-tabulate (2 ^ s) b f l ∙ pick_no (ℕ_discrete b i) _ _ d;
       pays = omega (arith, h.3, ap sum same);
     }
     convert no_place_left h = omega (arith, few-live xs pos long h, ap sum same)

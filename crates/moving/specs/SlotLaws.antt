@@ -10,7 +10,7 @@ use Rattle.std.proofs.Math.ListN.{length, get_or, length-map, length-replicate, 
 use Rattle.std.proofs.lemmas.List.{get_or-replicate}
 use Rattle.std.proofs.Math.Seq.{ext_get_or}
 use Rattle.index.specs.Meaning.{Holds}
-use Rattle.laws.specs.Lists.{get_d_tabulate, length-tabulate, tabulate-more}
+use Rattle.laws.specs.Lists.{get_or-tabulate, length-tabulate, tabulate-more}
 use Rattle.laws.specs.Live.{live, live_block}
 use Rattle.laws.specs.LiveBlock.{live-block-in, live-block-open, live-block-sum}
 use Rattle.laws.specs.Parts.{map-append}
@@ -156,5 +156,5 @@ module _ (w L : ℕ) (vs : List ℕ) (bs : List (List ℕ)) (route : Route) (siz
         (λ x l.
         let m : x < q = omega arith in
         get_or-mapped f (tabulate q (λ y. y)) x 0 closed (omega (arith, length-tabulate q (λ y. y)))
-        ∙ ap f (get_d_tabulate q x (λ y. y) m)
+        ∙ ap f (get_or-tabulate q x (λ y. y) m)
         ∙ slot_at x m (dec_lt x (length vs)) (dec_lt x route.live))

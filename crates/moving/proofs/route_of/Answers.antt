@@ -5,7 +5,7 @@ use native.Mathlib.Nat.{mul-le-mul}
 use native.Mathlib.Omega.{arith}
 use lib.ListN.{length, get_or, length-drop, length-take}
 use Rattle.laws.specs.Cut.{block-fits, part-block}
-use Rattle.laws.specs.Lists.{get_d_tabulate, length-tabulate}
+use Rattle.laws.specs.Lists.{get_or-tabulate, length-tabulate}
 use Rattle.rules.specs.Cells.{block, sum, tabulate}
 use Rattle.rules.specs.Staged.{after}
 use Rattle.moving.specs.Meaning.{mark}
@@ -74,7 +74,7 @@ loop-at-preserved c =
     let a = c.args in
     let t = c.loop-at.route.live in
     let h : t < a.k = omega (arith, c.if-k-t.false) in
-    let value = c.value_after.ensures ∙ sym (get_d_tabulate a.k t (after a.bit (λ y. get_or a.weights y 0 % 2)) h) in
+    let value = c.value_after.ensures ∙ sym (get_or-tabulate a.k t (after a.bit (λ y. get_or a.weights y 0 % 2)) h) in
     let m = c.mark_of.ensures ∙ ap (λ (x : ℕ). mark (a.len * a.top) x c.value_after.result) (sym (weighs (goal.at.loop-at-preserved c).After-sum_of-weight)) ∙ ap (mark (a.len * a.top) (sum (block a.len a.cells.now c.loop-at.at))) value in
     (omega arith, omega arith, route-live a.len a.top c.loop-at.at a.cells.now _ c.loop-at.invariant.2 (λ e. c.if-weight-full.false (sym (weighs (goal.at.loop-at-preserved c).After-sum_of-weight) ∙ e)) _ m (omega (arith, c.requires.few)))
 
