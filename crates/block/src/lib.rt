@@ -95,7 +95,7 @@ fn weight_of(tops: u8, top: u8, total: u8) -> usize
 
 // The state of a block whose levels are at most the top level.
 pub fn state_of(b: &[u8], top: u8) -> BlockState
-    requires in_bounds { (2 ≤ length b.now) × (length b.now ≤ most_bits) × (1 ≤ top) }
+    requires sized { (2 ≤ length b.now) × (length b.now ≤ most_bits) × (1 ≤ top) }
     requires low { Low top b.now }
     ensures { as_state result ≡ state_of (length b.now) top b.now }
 {
@@ -120,8 +120,8 @@ pub fn state_of(b: &[u8], top: u8) -> BlockState
 
 // The next step of a block on the cycle of a bit, in a part of the sheet that begins with the block: one cell is raised.
 pub fn raise_step(part: &mut [u8], k: usize, top: u8, bit: usize, weight: usize)
-    requires le_k { (2 ≤ k) × (k ≤ length part.old) × (bit < k) × (1 ≤ top) × (weight < k * top) }
-    requires part_value { take k part.old ≡ cycle k top bit weight }
+    requires in_bounds { (2 ≤ k) × (k ≤ length part.old) × (bit < k) × (1 ≤ top) × (weight < k * top) }
+    requires on_cycle { take k part.old ≡ cycle k top bit weight }
     ensures { part.new ≡ cycle k top bit (weight + 1) ++ drop k part.old }
 {
     let cell = (bit + weight / top as usize) % k;
@@ -130,8 +130,8 @@ pub fn raise_step(part: &mut [u8], k: usize, top: u8, bit: usize, weight: usize)
 
 // The next step of block j of the sheet: the part from j times k on is lent on.
 pub fn raise_block(sheet: &mut [u8], k: usize, top: u8, j: usize, bit: usize, weight: usize)
-    requires le_k { (2 ≤ k) × (j * k + k ≤ length sheet.old) × (bit < k) × (1 ≤ top) × (weight < k * top) }
-    requires j_value { block k sheet.old j ≡ cycle k top bit weight }
+    requires in_bounds { (2 ≤ k) × (j * k + k ≤ length sheet.old) × (bit < k) × (1 ≤ top) × (weight < k * top) }
+    requires on_cycle { block k sheet.old j ≡ cycle k top bit weight }
     ensures { sheet.new ≡ store k sheet.old j (cycle k top bit (weight + 1)) }
 {
     let a = j * k;

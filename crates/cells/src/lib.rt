@@ -200,8 +200,8 @@ pub fn past_run(
     from: usize,
     level: u8,
 ) -> usize
-    requires le_len { (1 ≤ len) × (step ≡ run / len) }
-    requires len_in_bounds { (count * len ≤ length cells.now) × (length cells.now ≤ 65536) × (from ≤ count) }
+    requires stride { (1 ≤ len) × (step ≡ run / len) }
+    requires in_bounds { (count * len ≤ length cells.now) × (length cells.now ≤ 65536) × (from ≤ count) }
     ensures { (from ≤ result) × (result ≤ count) × RunFrom len level cells.now from result }
 {
     if step == 0 {

@@ -90,7 +90,7 @@ fn need_full(b: &[u8], level: u8) -> Need
 
 // What it needs to raise an index block to the digits of u above the floor, the last digit first.
 fn need_number(b: &[u8], floor: u8, step: u8, u: usize) -> Need
-    requires step_bound { (floor + step ≤ 255) × (u < suc step ^ length b.now) × (length b.now ≤ 65536) }
+    requires holds { (floor + step ≤ 255) × (u < suc step ^ length b.now) × (length b.now ≤ 65536) }
     requires rises { Rises b.now (plus floor (digits (suc step) (length b.now) u)) }
     ensures { Needs b.now (plus floor (digits (suc step) (length b.now) u)) result }
 {
@@ -112,7 +112,7 @@ fn need_number(b: &[u8], floor: u8, step: u8, u: usize) -> Need
 
 // What it needs to write over an index block what it is to say, before anything is written.
 pub fn need_entry(b: &[u8], floor: u8, step: u8, entry: Index) -> Need
-    requires step_bound { (floor + step ≤ 255) × Holds step (length b.now) (as_entry entry) × (length b.now ≤ 65536) }
+    requires holds { (floor + step ≤ 255) × Holds step (length b.now) (as_entry entry) × (length b.now ≤ 65536) }
     requires rises { Rises b.now (cells_at floor step (length b.now) (as_entry entry)) }
     ensures { Needs b.now (cells_at floor step (length b.now) (as_entry entry)) result }
 {

@@ -201,7 +201,7 @@ fn count_marked(k: usize, marks: &[u8; MOST_BITS]) -> usize
 fn need_batch(batch: &[u8], w: usize, floor: u8, step: u8, k: usize, route: Route) -> Need
     requires { RowFits w floor step k batch.now × Low floor batch.now }
     ensures needs { Needs batch.now (row_cells floor step w (slot_entries k route.live route.marks (2 * (k - 1)))) result }
-    ensures cells_bound { (result.cells ≤ 65536) × (result.levels ≤ 65536 * 255) }
+    ensures small { (result.cells ≤ 65536) × (result.levels ≤ 65536 * 255) }
 {
     let live = route.live;
     let marks = route.marks;

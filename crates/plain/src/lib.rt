@@ -56,7 +56,7 @@ fn check_repeats(bits: [u8; MOST_BITS + 1], n: usize) -> Answer
 
 // The state of block j.
 fn state_at(cells: &[u8], k: usize, top: u8, j: usize) -> BlockState
-    requires le_k { (2 ≤ k) × (k ≤ most_bits) × (1 ≤ top) × (j * k + k ≤ length cells.now) × (length cells.now ≤ 65536) }
+    requires in_bounds { (2 ≤ k) × (k ≤ most_bits) × (1 ≤ top) × (j * k + k ≤ length cells.now) × (length cells.now ≤ 65536) }
     requires low { Low top cells.now }
     ensures { as_state result ≡ states k top cells.now j }
 {
@@ -89,7 +89,7 @@ fn check_last(full: bool, n: usize, k: usize, given: Answer) -> Answer
 // One pass over the blocks: those in use one by one, full ones in runs, and at the first empty one all that come after it; then the search for a repeat.
 // k + 1 bits below k can't all differ, so no more are noted.
 pub fn scan_blocks(cells: &[u8], k: usize, top: u8, m: usize) -> Look
-    requires le_k { (2 ≤ k) × (k ≤ most_bits) × (1 ≤ top) × (m * k ≤ length cells.now) × (length cells.now ≤ 65536) }
+    requires in_bounds { (2 ≤ k) × (k ≤ most_bits) × (1 ≤ top) × (m * k ≤ length cells.now) × (length cells.now ≤ 65536) }
     requires low { Low top cells.now }
     ensures { Scanned k top m cells.now result }
 {
@@ -150,8 +150,8 @@ pub fn plan_blocks(look: Look, bit: usize, blocks: usize) -> Plan
 // The first k places set to the parities of the weights; how many are 1.
 pub fn write_bits(out: &mut [u8], k: usize, weights: [u16; MOST_BITS]) -> usize
     requires { (k ≤ most_bits) × (k ≤ length out.old) }
-    ensures value { result ≡ sum (parities k weights) }
-    ensures out_after { out.new ≡ parities k weights ++ drop k out.old }
+    ensures ones { result ≡ sum (parities k weights) }
+    ensures places { out.new ≡ parities k weights ++ drop k out.old }
 {
     let mut ones: usize = 0;
     let mut i: usize = 0;

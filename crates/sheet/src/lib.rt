@@ -120,10 +120,10 @@ fn carry(
     weights: [u16; MOST_BITS],
     plan: Plan,
 ) -> usize
-    requires levelled { Levelled settings sheet.old × (bit < settings.k) × Sized settings sizes × (StagedFacts settings → stage ≤ settings.s - 1) }
-    requires fits { Fits settings sheet.old bit (settings.s - 1 - stage) plan × (place_check plan ≡ Done 0) }
+    requires sheet_fits { Levelled settings sheet.old × (bit < settings.k) × Sized settings sizes × (StagedFacts settings → stage ≤ settings.s - 1) }
+    requires plan_fits { Fits settings sheet.old bit (settings.s - 1 - stage) plan × (place_check plan ≡ Done 0) }
     ensures sheet_after { sheet.new ≡ carried settings bit (settings.s - 1 - stage) (after bit (λ y. get_or weights y 0 % 2)) sheet.old plan }
-    ensures sheet_value { result + sum sheet.old ≡ sum sheet.new }
+    ensures levels_raised { result + sum sheet.old ≡ sum sheet.new }
 {
     if let Plan::Step(j, weight) = plan {
         raise_block(sheet, settings.k, settings.top as u8, j, bit, weight);

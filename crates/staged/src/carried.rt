@@ -44,7 +44,7 @@ fn need_at(
     entry: Index,
     up: usize,
 ) -> Need
-    requires staged_facts { StagedFacts settings × Levelled settings sheet.now × IndexFits settings a × Holds settings.top settings.w (as_entry entry) × (up ≤ 1) × Sized settings sizes }
+    requires fits { StagedFacts settings × Levelled settings sheet.now × IndexFits settings a × Holds settings.top settings.w (as_entry entry) × (up ≤ 1) × Sized settings sizes }
     requires rises { Rises (part a settings.w sheet.now) (entry_cells settings.top settings.w (as_entry entry)) }
     ensures { NeedsMore up (part a settings.w sheet.now) (entry_cells settings.top settings.w (as_entry entry)) result }
 {
@@ -145,7 +145,7 @@ fn carry_move(
 ) -> usize
     requires { StagedFacts settings × Levelled settings sheet.old × MoveFits settings sheet.old to × Sized settings sizes }
     ensures sheet_after { sheet.new ≡ moved_sheet settings sheet.old to (after bit (λ y. get_or weights y 0 % 2)) }
-    ensures sheet_value { result + sum sheet.old ≡ sum sheet.new }
+    ensures levels_raised { result + sum sheet.old ≡ sum sheet.new }
 {
     let k = settings.k;
     let top = settings.top as u8;
@@ -169,7 +169,7 @@ pub fn carry_out(
 ) -> usize
     requires { StagedFacts settings × Levelled settings sheet.old × (bit < settings.k) × Staged plan × Fits settings sheet.old bit left plan × Sized settings sizes }
     ensures sheet_after { sheet.new ≡ carried settings bit left (after bit (λ y. get_or weights y 0 % 2)) sheet.old plan }
-    ensures sheet_value { result + sum sheet.old ≡ sum sheet.new }
+    ensures levels_raised { result + sum sheet.old ≡ sum sheet.new }
 {
     if let Plan::Move(to) = plan {
         return carry_move(settings, sizes, sheet, bit, to, weights);

@@ -7,7 +7,7 @@ use Rattle.block.proofs.raise_block.Goals as goal
 pub raise_step-requires : goal.raise_step-requires
 raise_step-requires c =
     let a = c.args in
-    record { le_k = simp (length-take, length-drop) (omega arith); part_value = lent-block a.k a.sheet.now a.j ∙ c.requires.j_value }
+    record { in_bounds = simp (length-take, length-drop) (omega arith); on_cycle = lent-block a.k a.sheet.now a.j ∙ c.requires.on_cycle }
 
 pub returns : goal.returns
 returns c =

@@ -16,7 +16,7 @@ bounds-part-cell c =
 pub overflow_add-part : goal.overflow_add-part
 overflow_add-part c =
     let a = c.args in
-    omega (arith, part-below a.k a.top a.bit (omega arith) a.weight (omega arith) (omega arith) a.part.now c.requires.part_value)
+    omega (arith, part-below a.k a.top a.bit (omega arith) a.weight (omega arith) (omega arith) a.part.now c.requires.on_cycle)
 
 pub bounds-part-cell-2 : goal.bounds-part-cell-2
 bounds-part-cell-2 c =
@@ -26,4 +26,4 @@ bounds-part-cell-2 c =
 pub returns : goal.returns
 returns c =
     let a = c.args in
-    part_step a.k a.top a.bit (omega arith) a.weight (omega arith) (omega arith) a.part.now c.requires.part_value
+    part_step a.k a.top a.bit (omega arith) a.weight (omega arith) (omega arith) a.part.now c.requires.on_cycle

@@ -61,5 +61,5 @@ loop-j-preserved c =
     let g : RunAt a.level (take run (drop (c.loop-j.j * a.len) a.cells.now)) = rw q at (c.run_at.ensures c.if-not-run_at.false) in (
       omega arith,
       omega arith,
-      past_more a.len a.level a.step run a.from c.loop-j.j a.cells.now (omega (arith, rw (← c.requires.le_len.1) at (div-mul-le_self run a.len))) (omega arith) g c.loop-j.invariant.2,
+      past_more a.len a.level a.step run a.from c.loop-j.j a.cells.now (omega (arith, rw (← c.requires.stride.1) at (div-mul-le_self run a.len))) (omega arith) g c.loop-j.invariant.2,
     )

@@ -10,13 +10,13 @@ use Rattle.index.proofs.need_entry.Goals as goal
 pub need_number-requires : goal.need_number-requires
 need_number-requires c =
     let a = c.args in
-    let e = c.in-Number.is in record { step_bound = (c.requires.step_bound.0, subst (λ r. Holds a.step (length a.b.now) (as_entry r)) e c.requires.step_bound.1, c.requires.step_bound.2); rises = subst (λ r. Rises a.b.now (cells_at a.floor a.step (length a.b.now) (as_entry r))) e c.requires.rises }
+    let e = c.in-Number.is in record { holds = (c.requires.holds.0, subst (λ r. Holds a.step (length a.b.now) (as_entry r)) e c.requires.holds.1, c.requires.holds.2); rises = subst (λ r. Rises a.b.now (cells_at a.floor a.step (length a.b.now) (as_entry r))) e c.requires.rises }
 
 pub need_full-requires : goal.need_full-requires
 need_full-requires c =
     let a = c.args in
     let e = ap (λ r. cells_at a.floor a.step (length a.b.now) (as_entry r)) c.in-Full.is ∙ plus-replicate a.floor (length a.b.now) a.step in
-    (c.requires.step_bound.2, subst (Rises a.b.now) e c.requires.rises)
+    (c.requires.holds.2, subst (Rises a.b.now) e c.requires.rises)
 
 pub returns-in-Number : goal.returns-in-Number
 returns-in-Number c =

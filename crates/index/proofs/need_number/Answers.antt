@@ -50,7 +50,7 @@ loop-i-init c =
       omega arith,
       omega arith,
       omega arith,
-      c.requires.step_bound.1,
+      c.requires.holds.1,
       digits-front a.floor (suc a.step) (length a.b.now) a.u (length a.b.now) refl,
       needs-none a.b.now (after a.floor a.step a.b.now a.u) (as_many a.floor a.step a.b.now a.u),
     )

@@ -12,10 +12,10 @@ need_batch-batch-requires c =
     rw q (region-batch c.requires a.sheet.now refl, region-low c.requires)
 
 pub overflow_add-result : goal.overflow_add-result
-overflow_add-result c = omega (arith, c.need_batch-batch.ensures.cells_bound.0, c.count_marked-raised.ensures.1, c.requires.few)
+overflow_add-result c = omega (arith, c.need_batch-batch.ensures.small.0, c.count_marked-raised.ensures.1, c.requires.few)
 
 pub overflow_add-result-2 : goal.overflow_add-result-2
-overflow_add-result-2 c = omega (arith, c.need_batch-batch.ensures.cells_bound.1, c.count_marked-raised.ensures.1, c.requires.few)
+overflow_add-result-2 c = omega (arith, c.need_batch-batch.ensures.small.1, c.count_marked-raised.ensures.1, c.requires.few)
 
 pub returns : goal.returns
 returns c = λ parity L vs m.

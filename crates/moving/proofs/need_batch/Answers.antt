@@ -47,7 +47,7 @@ need_entry-need-requires c =
     let n : length (take a.w (drop (l.x * a.w) a.batch.now)) ≡ a.w = long l.x a.w a.batch.now i in
     rw (q, n, c.slot_entry-entry.ensures)
     record {
-      step_bound = (p.0.below, slot-holds a.k a.route.live a.step a.w a.route.marks l.x p.0.wide, omega (arith, i, p.0.short));
+      holds = (p.0.below, slot-holds a.k a.route.live a.step a.w a.route.marks l.x p.0.wide, omega (arith, i, p.0.short));
       rises = floor-rises a.floor a.step a.w (take a.w (drop (l.x * a.w) a.batch.now)) (slot_entry a.k a.route.live a.route.marks l.x) n b;
     }
 
@@ -94,5 +94,5 @@ returns c =
     let h : l.x * a.w ≤ length a.batch.now = omega (arith, p.exact, ap (λ (x : ℕ). x * a.w) e) in
     record {
       needs = rw (← e) (rw (take_all (l.x * a.w) a.batch.now n) at l.invariant.1);
-      cells_bound = batch-small a.floor a.step a.w a.k a.route.live a.route.marks p.wide p.below l.x a.batch.now h p.short l.invariant.1;
+      small = batch-small a.floor a.step a.w a.k a.route.live a.route.marks p.wide p.below l.x a.batch.now h p.short l.invariant.1;
     }

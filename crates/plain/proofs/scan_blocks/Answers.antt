@@ -80,7 +80,7 @@ pub state_at-requires : goal.state_at-requires
 state_at-requires c =
     let a = c.args in
     let h = block-end a.k a.m c.loop-next.next (length a.cells.now) (omega arith) c.loop-next-test.true in
-    record { le_k = (omega arith, omega arith, omega arith, h, omega arith); low = c.requires.low }
+    record { in_bounds = (omega arith, omega arith, omega arith, h, omega arith); low = c.requires.low }
 
 pub loop-next-preserved-in-Full : goal.loop-next-preserved-in-Full
 loop-next-preserved-in-Full c =

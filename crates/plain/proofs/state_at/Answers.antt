@@ -8,7 +8,7 @@ pub state_of-requires : goal.state_of-requires
 state_of-requires c =
     let a = c.args in
     let l = part_length a.k a.cells.now a.j (omega arith) in
-    record { in_bounds = (omega (arith, l), omega (arith, l), omega arith); low = part_low a.k a.top a.cells.now a.j c.requires.low }
+    record { sized = (omega (arith, l), omega (arith, l), omega arith); low = part_low a.k a.top a.cells.now a.j c.requires.low }
 
 pub returns : goal.returns
 returns c =

@@ -21,4 +21,4 @@ pub returns : goal.returns
 returns c =
     let a = c.args in
     let e : c.loop-i.i ≡ a.k = omega arith in
-    record { value = rw e at c.loop-i.invariant.2; out_after = rw e at c.loop-i.invariant.4 }
+    record { ones = rw e at c.loop-i.invariant.2; places = rw e at c.loop-i.invariant.4 }

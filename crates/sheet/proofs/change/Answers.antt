@@ -31,11 +31,11 @@ pub carry-requires : goal.carry-requires
 carry-requires c =
     let h = c.look_at-look.ensures in
     let e = c.in-Done.is in
-    let g = h.look _ e in record { levelled = (g.1, change-bit _ _ _ _ _ h e, sized _ _ c.sizes_of-sizes.ensures g.0, seen-stage _ _ _ _ (seen-is _ _ _ _ g.2 e).1); fits = (c.plan_change-plan.ensures.fits, place-zero c.plan_change-plan.result _ (sym c.check_place-placed.ensures ∙ c.in-Done-placed.is)) }
+    let g = h.look _ e in record { sheet_fits = (g.1, change-bit _ _ _ _ _ h e, sized _ _ c.sizes_of-sizes.ensures g.0, seen-stage _ _ _ _ (seen-is _ _ _ _ g.2 e).1); plan_fits = (c.plan_change-plan.ensures.fits, place-zero c.plan_change-plan.result _ (sym c.check_place-placed.ensures ∙ c.in-Done-placed.is)) }
 
 pub returns : goal.returns
 returns c =
     let h = c.look_at-look.ensures in
     let e = c.in-Done.is in
-    told (carried-done c.args.settings c.args.sheet.now (change-sound _ _ _ _ _ h e) c.args.bit _ _ c.plan_change-plan.result _ _ _ c.plan_change-plan.ensures (sym c.check_place-placed.ensures ∙ c.in-Done-placed.is) c.carry.ensures.sheet_after c.carry.ensures.sheet_value
+    told (carried-done c.args.settings c.args.sheet.now (change-sound _ _ _ _ _ h e) c.args.bit _ _ c.plan_change-plan.result _ _ _ c.plan_change-plan.ensures (sym c.check_place-placed.ensures ∙ c.in-Done-placed.is) c.carry.ensures.sheet_after c.carry.ensures.levels_raised
     ∙ change-passed _ _ _ _ _ h e)

@@ -19,4 +19,4 @@ write_bits-requires c =
 
 pub returns : goal.returns
 returns c =
-    told-read (read_made _ _ _ _ _ _ _ c.look_at-look.ensures c.in-Done.is c.write_bits.ensures.value c.write_bits.ensures.out_after)
+    told-read (read_made _ _ _ _ _ _ _ c.look_at-look.ensures c.in-Done.is c.write_bits.ensures.ones c.write_bits.ensures.places)

@@ -30,7 +30,7 @@ returns-then-not-all_zero c =
 pub scan_blocks-requires : goal.scan_blocks-requires
 scan_blocks-requires c =
     let r = c.args.settings in
-    record { le_k = (c.requires.0.bits-least, c.requires.0.bits_most, c.requires.0.top_least, omega (arith, ap (λ (x : ℕ). x * r.k) c.requires.2.blocks, c.requires.0.inside, c.requires.1.long), omega (arith, c.requires.0.cells-most, c.requires.1.long)); low = c.requires.1.low }
+    record { in_bounds = (c.requires.0.bits-least, c.requires.0.bits_most, c.requires.0.top_least, omega (arith, ap (λ (x : ℕ). x * r.k) c.requires.2.blocks, c.requires.0.inside, c.requires.1.long), omega (arith, c.requires.0.cells-most, c.requires.1.long)); low = c.requires.1.low }
 
 pub returns : goal.returns
 returns c =

@@ -30,4 +30,4 @@ returns c =
     let g = after c.args.bit (λ y. get_or c.args.weights y 0 % 2) in
     let q = move-told c.args.settings c.requires.0 c.args.sheet.now c.requires.1 c.args.to c.requires.2 _ _ c.parity_of-parity.ensures c.region_of-region.ensures g _ c.route_of-route.ensures _ c.commit_move.ensures in
     let k = need-told c.args.settings c.requires.0 c.args.sheet.now c.requires.1 c.args.to c.requires.2 _ _ c.parity_of-parity.ensures c.region_of-region.ensures g _ c.route_of-route.ensures _ c.move_need-need.ensures in
-    record { sheet_after = q; sheet_value = k.levels ∙ sym (ap sum q) }
+    record { sheet_after = q; levels_raised = k.levels ∙ sym (ap sum q) }

@@ -16,7 +16,7 @@ carry_move-requires c =
 pub returns-in-Move : goal.returns-in-Move
 returns-in-Move c =
     let g = after c.args.bit (λ n. get_or c.args.weights n 0 % 2) in
-    record { sheet_after = c.carry_move.ensures.sheet_after ∙ sym (ap (carried c.args.settings c.args.bit c.args.left g c.args.sheet.now) c.in-Move.is); sheet_value = c.carry_move.ensures.sheet_value }
+    record { sheet_after = c.carry_move.ensures.sheet_after ∙ sym (ap (carried c.args.settings c.args.bit c.args.left g c.args.sheet.now) c.in-Move.is); levels_raised = c.carry_move.ensures.levels_raised }
 
 pub need_within-need-requires : goal.need_within-need-requires
 need_within-need-requires c =
@@ -33,4 +33,4 @@ returns c =
     let g = after a.bit (λ y. get_or a.weights y 0 % 2) in
     let w = within-no-move c.args.plan c.in_default.not-Move c.requires.3 in
     let q = c.carry_within.ensures ∙ carried-parts a.settings c.requires.0 a.sheet.now c.requires.1 a.bit a.left g a.plan w in
-    record { sheet_after = q; sheet_value = (plan-needs a.settings c.requires.0 a.sheet.now c.requires.1 a.bit a.left g a.plan _ w c.requires.4 c.need_within-need.ensures).levels ∙ sym (ap sum q) }
+    record { sheet_after = q; levels_raised = (plan-needs a.settings c.requires.0 a.sheet.now c.requires.1 a.bit a.left g a.plan _ w c.requires.4 c.need_within-need.ensures).levels ∙ sym (ap sum q) }

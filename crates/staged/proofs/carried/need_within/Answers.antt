@@ -12,12 +12,12 @@ use Rattle.staged.proofs.carried.need_within.Goals as goal
 pub need_at-requires : goal.need_at-requires
 need_at-requires c =
     let h = subst (IndexReady _ _) c.in-Close.is c.requires.4 in
-    record { staged_facts = (c.requires.0, c.requires.1, h, tt, omega arith, c.requires.5); rises = index-rises c.args.settings _ c.requires.1 _ h }
+    record { fits = (c.requires.0, c.requires.1, h, tt, omega arith, c.requires.5); rises = index-rises c.args.settings _ c.requires.1 _ h }
 
 pub need_at-requires-in-Take : goal.need_at-requires-in-Take
 need_at-requires-in-Take c =
     let h = subst (IndexReady _ _) c.in-Take.is c.requires.4 in
-    record { staged_facts = (c.requires.0, c.requires.1, h.0, omega (arith, c.requires.0.enough, c.requires.2), h.1, c.requires.5); rises = rises-zero (part c.in-Take.a c.args.settings.w c.args.sheet.now) (digits (suc c.args.settings.top) c.args.settings.w (c.args.bit + 1)) h.2 }
+    record { fits = (c.requires.0, c.requires.1, h.0, omega (arith, c.requires.0.enough, c.requires.2), h.1, c.requires.5); rises = rises-zero (part c.in-Take.a c.args.settings.w c.args.sheet.now) (digits (suc c.args.settings.top) c.args.settings.w (c.args.bit + 1)) h.2 }
 
 pub returns-in-Close : goal.returns-in-Close
 returns-in-Close c = plan-told c.args.settings c.args.bit c.args.sheet.now _ c.in-Close.is c.need_at.ensures

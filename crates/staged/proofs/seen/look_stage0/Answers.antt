@@ -10,7 +10,7 @@ slice_bounds-scan_blocks-end c = sym (length-take-le _ c.args.sheet.now (cells_i
 pub scan_blocks-requires : goal.scan_blocks-requires
 scan_blocks-requires c =
     let a = scan-asks _ c.requires.0 _ c.requires.1 _ _ c.block_cells-cells.ensures c.requires.3.blocks in
-    record { le_k = a.bits; low = a.low }
+    record { in_bounds = a.bits; low = a.low }
 
 pub returns : goal.returns
 returns c =
