@@ -6,7 +6,7 @@ page_parts=(summary machine yardsticks calls forms moves runs programs counts fe
 
 # build: the archive and the program for this machine, the second program, and the benchmarks
 build() {
-    on_path "$0" gcc cargo && native_archive && native_program &&
+    on_path "$0" gcc cargo && native_archive && program &&
         cargo build --offline --release --quiet --manifest-path second/Cargo.toml &&
         build_benchmarks
 }

@@ -8,7 +8,7 @@ again=parity::later_stage times=6
 
 # own_options TARGET: what the kit compiles the archive itself with, beside the usual ones; no other target has more
 own_options() {
-    [ "$1" != "$target" ] || echo "-march=x86-64 -mllvm -trap-unreachable -mllvm -no-trap-after-noreturn"
+    [ "$1" != "$target" ] || echo "-march=x86-64-v2 -mllvm -trap-unreachable -mllvm -no-trap-after-noreturn -mllvm -no-x86-call-frame-opt -mllvm -disable-machine-licm -mllvm -disable-postra-machine-licm -mllvm -sink-common-insts=false"
 }
 
 # bytes OBJECT: of code, of constants and of writable data, by the flags of the sections that are loaded

@@ -1,21 +1,16 @@
 # shellcheck shell=bash
-# Sourced from the repository's root: the kit's tools, the archive and the program, and both again for this machine.
+# Sourced from the repository's root: the kit's tools, the archive and the program, and the archive again for other targets.
 . checks/tools.sh
 on_path "$0" rt || exit 1
 kit=$(dirname "$(dirname "$(readlink -f "$(command -v rt)")")")
-machine=$(uname -m)
-own=$kit/on/$machine
-tools=$own/toolchain
-target=x86_64-unknown-linux-gnu
-# Programs run on the kit's loader and C library, under its emulator where the machine is another.
-emulator=$tools/bin/qemu-x86_64
-[ -x "$emulator" ] || emulator=
-# shellcheck disable=SC2034 # used where this is sourced
-run="$emulator $tools/lib/ld-linux-x86-64.so.2 --library-path $tools/lib"
+tools=$kit/toolchain
+# The kit's own processor, and so the machine's.
+machine=x86_64
+target=$machine-unknown-linux-gnu
 
-# fresh FILE: whether it is there and no older than what it is made of
+# fresh FILE: whether it is there and no older than what it is made of; what rt keeps in a crate's out/ is made too
 fresh() {
-    [ -f "$1" ] && [ -z "$(find crates.txt crates -type f -newer "$1" -print -quit)" ]
+    [ -f "$1" ] && [ -z "$(find crates.txt crates -name out -prune -o -type f -newer "$1" -print -quit)" ]
 }
 
 # quietly COMMAND..: what it says is shown only if it fails
@@ -26,16 +21,26 @@ quietly() {
     return "$status"
 }
 
+# in_folder FOLDER COMMAND..: run there, as rt works on the crate in the current folder
+in_folder() (
+    cd "$1" && shift && "$@"
+)
+
 # archive: prove the C interface, write target/staticlib/libharpginger.a, for x86-64, and keep the proved module that it is compiled from, where that is not done
 archive() {
-    fresh target/staticlib/libharpginger.a && fresh target/staticlib/harpginger.bc && return
-    mkdir -p target/staticlib
-    keeping target/staticlib/harpginger.bc rt staticlib harpginger
+    local made=crates/harpginger/out/libharpginger.a kept=target/staticlib
+    fresh $kept/libharpginger.a && fresh $kept/harpginger.bc && return
+    mkdir -p $kept && rm -f $kept/libharpginger.a &&
+        quietly in_folder crates/harpginger rt lib && cp $made $kept/made.a &&
+        keeping $kept/harpginger.bc harpginger lib && cmp $made $kept/made.a && mv $kept/made.a $kept/libharpginger.a
 }
 
-# program: prove the drive program and write target/bin/drive, where that is not done
+# program: prove the drive program and write target/bin/drive, where that is not done; what rt ci proved and built of the same sources serves
 program() {
-    fresh target/bin/drive || { quietly rt check drive && touch target/bin/drive; }
+    local made=crates/drive/out/drive
+    fresh target/bin/drive && return
+    mkdir -p target/bin
+    { fresh $made || quietly in_folder crates/drive rt run; } && cp $made target/bin/drive.new && mv target/bin/drive.new target/bin/drive
 }
 
 # system_headers: the kit has no C headers; gcc's and the machine's serve, as stdio's are the same on every 64-bit Linux
@@ -50,34 +55,33 @@ link_c() {
     name=$(basename "$file" .c)
     mkdir -p target/obj target/bin
     "$tools/bin/clang" --target=$target -O2 "$@" -c "$file" -o "target/obj/$name.o" &&
-        "$own/bin/rattle-link" --target $target --toolchain "$tools" -o "target/bin/$name" "target/obj/$name.o" target/staticlib/libharpginger.a
+        quietly "$kit/bin/rattle-link" --target $target --toolchain "$tools" -o "target/bin/$name" "target/obj/$name.o" target/staticlib/libharpginger.a
 }
 
-# keeping FILE COMMAND..: rt over a view of the kit whose clang also leaves the module that it compiles in FILE
-# A module of an earlier run must not pass for one that this run did not compile.
+# keeping FILE CRATE WORDS..: rt in the crate's folder, over a view of the kit whose clang also leaves the module that it compiles in FILE
+# A module of an earlier run must not pass for one that this run did not compile. The view is in a folder of its own, as rt keeps work beside its kit.
 keeping() {
-    local kept=$PWD/$1 view status=0 part
-    shift
-    rm -f "$kept" || return 1
-    view=$(mktemp -d)
-    chmod 755 "$view"
-    mkdir -p "$view/on/$machine"
-    for part in "$kit"/* "$own"/*; do
+    local kept=$PWD/$1 crate=$2 room view status=0 part
+    shift 2
+    rm -f "$kept" && room=$(mktemp -d) || return 1
+    view=$room/kit
+    mkdir -p "$view/bin" "$view/toolchain/bin"
+    for part in "$kit"/* "$kit"/toolchain/* "$kit"/bin/* "$kit"/toolchain/bin/*; do
         part=${part#"$kit"/}
-        case $part in on | on/*/toolchain) ;; *) ln -s "$kit/$part" "$view/$part" ;; esac
+        case $part in bin | toolchain | toolchain/bin | bin/rt | bin/rtlib.py | toolchain/bin/clang) ;; *) ln -s "$kit/$part" "$view/$part" ;; esac
     done
-    cp -rs "$tools" "$view/on/$machine/"
-    rm "$view/on/$machine/toolchain/bin/clang"
-    cat >"$view/on/$machine/toolchain/bin/clang" <<END
+    # rt takes for its kit what it really lies in.
+    cp "$kit/bin/rt" "$kit/bin/rtlib.py" "$view/bin/"
+    cat >"$view/toolchain/bin/clang" <<END
 #!/bin/sh
 [ ! -f module.bc ] || cp module.bc "$kept" || exit 1
 exec "$tools/bin/clang" "\$@"
 END
-    chmod 755 "$view/on/$machine/toolchain/bin/clang"
-    RATTLE_HOME=$view quietly "$@" || status=$?
-    rm -rf "$view"
+    chmod 755 "$view/toolchain/bin/clang"
+    quietly in_folder "crates/$crate" "$view/bin/rt" "$@" || status=$?
+    rm -rf "$room"
     if [ "$status" -eq 0 ] && [ ! -s "$kept" ]; then
-        echo "keeping: '$*' compiled no module, so there is no $kept" >&2
+        echo "keeping: 'rt $*' of $crate compiled no module, so there is no $kept" >&2
         status=1
     fi
     return "$status"
@@ -128,27 +132,13 @@ archive_for() {
 
 # native_archive: target/native/libharpginger.a, which this machine's own tools can link
 native_archive() {
-    fresh target/native/libharpginger.a || archive_for "$machine-unknown-linux-gnu" target/native
+    fresh target/native/libharpginger.a || archive_for $target target/native
 }
 
-# native_program: target/native/drive, which this machine runs with no emulator
-native_program() {
-    fresh target/native/drive && return
-    mkdir -p target/native
-    if [ "$machine" = x86_64 ]; then
-        program && gcc -o target/native/drive target/obj/drive.o
-        return
-    fi
-    rm -f target/stamp/drive
-    keeping target/native/drive.bc rt check drive &&
-        compiled target/native/drive.bc target/native/drive.o "$machine-unknown-linux-gnu" &&
-        gcc -o target/native/drive target/native/drive.o
-}
-
-# native_compare: the comparison with the library for this machine linked in, at target/native/cargo/release/compare
+# native_compare: the comparison with the library linked in, at target/native/cargo/release/compare
 native_compare() {
     local folder=$PWD/target/native
-    native_archive && native_program &&
+    native_archive && program &&
         (cd second && HARPGINGER_ARCHIVE=$folder CARGO_TARGET_DIR=$folder/cargo cargo build --offline --release --quiet)
 }
 

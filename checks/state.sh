@@ -1,6 +1,6 @@
 # shellcheck shell=bash
 # Sourced from the repository's root, after checks/kit.sh and bench/sizes.sh: the proved function of a block's state, for a program in C that counts its fetches.
-# shellcheck disable=SC2154 # machine is the kit's
+# shellcheck disable=SC2154 # target is the kit's
 
 # for_c FILE: the proved module as text, with block::state_of under a name that C can call, if it still takes what checks/blocks.h declares
 for_c() {
@@ -14,7 +14,7 @@ for_c() {
 
 # state_object OBJECT OPTIONS..: that module compiled for this machine as the archive is
 state_object() {
-    local object=$1 triple=$machine-unknown-linux-gnu
+    local object=$1 triple=$target
     shift
     # shellcheck disable=SC2046
     mkdir -p "$(dirname "$object")" && for_c "$object.module.ll" && compiled "$object.module.ll" "$object" "$triple" $(own_options "$triple") "$@"
