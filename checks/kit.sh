@@ -10,7 +10,7 @@ target=$machine-unknown-linux-gnu
 
 # fresh FILE: whether it is there and no older than what it is made of; what rt keeps in a crate's out/ is made too
 fresh() {
-    [ -f "$1" ] && [ -z "$(find crates.txt crates -name out -prune -o -type f -newer "$1" -print -quit)" ]
+    [ -f "$1" ] && [ -z "$(find -H crates.txt crates -name out -prune -o -type f -newer "$1" -print -quit)" ]
 }
 
 # quietly COMMAND..: what it says is shown only if it fails

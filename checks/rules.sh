@@ -3,5 +3,5 @@
 
 # rules_answers: each answer of the rules and its number
 rules_answers() {
-    sed -nE 's/^numberOf \(?([A-Za-z]+)( [a-z]\))? = ([0-9]+)$/\1 \3/p' crates/rules/specs/Answer.antt
+    sed -nE 's/^number_of \(?([A-Za-z]+)( [a-z]\))? = ([0-9]+)$/\1 \3/p' crates/rules/specs/Answer.antt
 }

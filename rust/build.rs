@@ -1,7 +1,7 @@
 //! Links the compiled library, libharpginger.a. HARPGINGER_ARCHIVE names the folder that holds it:
 //! absolute, or from where cargo was started, or from this package's folder. Without it that is
 //! where `checks/native` writes the archive for this machine, or for the target of this build;
-//! else, for x86-64 alone, where `rt staticlib harpginger` writes it.
+//! else, for x86-64 alone, `target/staticlib`, where the repository's checks leave it.
 //!
 //! Where there is none a warning says where it was looked for and what to type; `cargo check` works
 //! there all the same, and whatever has to be linked stops at the missing library.

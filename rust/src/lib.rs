@@ -53,9 +53,9 @@
 //!
 //! The library is the archive `libharpginger.a`. In the repository `checks/native` writes it for
 //! this machine to `target/native`, and `checks/native TARGET` for another one to
-//! `target/native/TARGET`; `rt staticlib harpginger` writes the one for x86-64 to
-//! `target/staticlib`. It is found there. `HARPGINGER_ARCHIVE` names another folder at build time:
-//! absolute, or from where cargo was started, or from this package's folder. So does Cargo's
+//! `target/native/TARGET`; the repository's checks leave the one for x86-64 in
+//! `target/staticlib` too. It is found there. `HARPGINGER_ARCHIVE` names another folder at build
+//! time: absolute, or from where cargo was started, or from this package's folder. So does Cargo's
 //! configuration:
 //!
 //! ```toml
