@@ -17,13 +17,10 @@ static void said(const volatile uint8_t *cells, unsigned length, const char *wor
 /* The cells are never freed, and nothing but the function reads them, so that each fetch from there is its own. */
 static void tried(const struct block *block) {
     struct state state = {STATES, 0, 0};
-    struct lent lent;
     uint8_t *cells = malloc(block->k);
     if (cells == NULL) exit(2);
     build(block, cells);
-    lent.cells = cells;
-    lent.length = block->k;
-    harpginger_state_of(&state, &lent, TOP);
+    harpginger_state_of(&state, cells, block->k, TOP);
     if (!is_told(block, &state)) {
         fprintf(stderr, "%s, %u cells, start %u, weight %u: another state is told\n", names[block->which], block->k, block->start, block->weight);
         exit(1);

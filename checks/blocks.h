@@ -17,13 +17,7 @@ struct state {
     uint64_t bit, weight;
 };
 
-/* Cells as the module takes them. */
-struct lent {
-    const uint8_t *cells;
-    uint64_t length;
-};
-
-void harpginger_state_of(struct state *state, const struct lent *block, uint8_t top);
+void harpginger_state_of(struct state *state, const uint8_t *cells, uint64_t length, uint8_t top);
 
 /* A block to try: its weight goes round from the start; for a broken one it is the number of its form. */
 struct block {

@@ -35,13 +35,10 @@ static void tell(const struct block *block, const struct state *state) {
 /* One call on one block; the first few that are wrong are told. */
 static void tried(const struct block *block) {
     struct state state = {STATES, 0, 0};
-    struct lent lent;
     lend(block->k, 1);
     once_more(0);
     build(block, cells);
-    lent.cells = cells;
-    lent.length = block->k;
-    harpginger_state_of(&state, &lent, (uint8_t)block->top);
+    harpginger_state_of(&state, cells, block->k, (uint8_t)block->top);
     blocks++;
     if (as_wanted() && is_told(block, &state)) return;
     if (wrong++ < TOLD) tell(block, &state);

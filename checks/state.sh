@@ -5,7 +5,7 @@
 # for_c FILE: the proved module as text, with block::state_of under a name that C can call, if it still takes what checks/blocks.h declares
 for_c() {
     archive && text target/staticlib/harpginger.bc "$1" || return 1
-    if ! grep -qE '^define internal void @"block::state_of"\(ptr [^,]*, ptr [^,]*, i8 [^,]*\) ' "$1"; then
+    if ! grep -qE '^define internal void @"block::state_of"\(ptr [^,]*, ptr [^,]*, i64 [^,]*, i8 [^,]*\) ' "$1"; then
         echo "checks/state.sh: the module has no block::state_of as checks/blocks.h declares it" >&2
         return 1
     fi
