@@ -87,7 +87,7 @@ clang_version() {
 # sizes CODE: the file of all targets, which is the same on every machine
 sizes() {
     local triple
-    printf '# the kit%s %s\t%s\n' "'s" "$(clang_version)" "$1"
+    printf '# %s%s %s\t%s\n' "$(rt version | cut -d ' ' -f 1)" "'s" "$(clang_version)" "$1"
     printf '# target\toptions\tcode\tconstants\twritable data\tsettings\terase\tread\tchange\tversion\tframes\tneeds\n'
     for triple in "${sized[@]}"; do
         size_of "$triple" || { echo "bench/run sizes: $triple" >&2 && return 1; }
