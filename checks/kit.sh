@@ -103,13 +103,23 @@ usual() {
     esac
 }
 
+# placed TEXT TARGET: whether a value of two parts lies in the target's memory as the module's own target has it: the second, of 64 bits, 8 bytes on
+# An x86 of 32 bits aligns 64-bit numbers to 4 bytes only. So may its C, and the code is told to expect no more; between the parts it gets 32 bits that nothing uses.
+placed() {
+    local others
+    case $2 in
+        x86_64-* | aarch64-*) return ;;
+        i[3-6]86-*) sed -i -E 's/, align 8/, align 4/; s/(extractvalue \{ i(8|16|32), i64 \} [^,]*, )1/\12/; s/\{ (i8|i16|i32), i64 \}/{ \1, i32, i64 }/g' "$1" ;;
+    esac
+    others=$(grep -vE '^(!|attributes )' "$1" | grep -oE '\{ [^{}]+ \}' | grep -vxE '\{ (i(8|16|32)(, i32)?|i64), i64 \}' | sort -u)
+    [ -z "$others" ] || { echo "compiled: where the parts of $others lie on $2 is not known" >&2 && return 1; }
+}
+
 # compiled MODULE OBJECT TARGET OPTIONS..: the proved module through the kit's own clang for any target that it has
-# Where the target's C aligns 64-bit numbers to 4 bytes only, so may the code: it is then told to expect no more.
 compiled() {
     local module=$1 object=$2 triple=$3
     shift 3
-    text "$module" "$object.ll" || return 1
-    case $triple in i[3-6]86-*) sed -i 's/, align 8/, align 4/' "$object.ll" ;; esac
+    text "$module" "$object.ll" && placed "$object.ll" "$triple" || return 1
     # shellcheck disable=SC2046
     "$tools/bin/clang" $(usual "$triple") --no-default-config -Wno-override-module -ffunction-sections -fdata-sections "$@" -c -x ir "$object.ll" -o "$object"
 }
