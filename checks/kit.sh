@@ -103,16 +103,25 @@ usual() {
     esac
 }
 
-# placed TEXT TARGET: whether a value of two parts lies in the target's memory as the module's own target has it: the second, of 64 bits, 8 bytes on
-# An x86 of 32 bits aligns 64-bit numbers to 4 bytes only. So may its C, and the code is told to expect no more; between the parts it gets 32 bits that nothing uses.
+# placed TEXT TARGET: whether the parts of each value of two parts lie in the target's memory as the module's own target has them
+# A second part of 64 bits lies 8 bytes on, and so does a pointer, which is aligned to 4 bytes only where it has 32 bits: between the parts stand 32 bits that nothing uses.
+# An x86 of 32 bits aligns 64-bit numbers to 4 bytes, too. So may its C, and the code is told to expect no more.
 placed() {
     local others
     case $2 in
         x86_64-* | aarch64-*) return ;;
-        i[3-6]86-*) sed -i -E 's/, align 8/, align 4/; s/(extractvalue \{ i(8|16|32), i64 \} [^,]*, )1/\12/; s/\{ (i8|i16|i32), i64 \}/{ \1, i32, i64 }/g' "$1" ;;
     esac
-    others=$(grep -vE '^(!|attributes )' "$1" | grep -oE '\{ [^{}]+ \}' | grep -vxE '\{ (i(8|16|32)(, i32)?|i64), i64 \}' | sort -u)
+    parted 'i8' 'ptr' "$1"
+    case $2 in
+        i[3-6]86-*) sed -i -E 's/, align 8/, align 4/' "$1" && parted 'i8|i16|i32|ptr' 'i64' "$1" ;;
+    esac
+    others=$(grep -vE '^(!|attributes )' "$1" | grep -oE '\{ [^{}]+ \}' | grep -vxE '\{ ((i8|i16|i32|ptr)(, i32)?, i64|i64, i64|i8, i32, ptr|i8, (i8|i16|i32)) \}' | sort -u)
     [ -z "$others" ] || { echo "compiled: where the parts of $others lie on $2 is not known" >&2 && return 1; }
+}
+
+# parted FIRST SECOND TEXT: values of these two parts with 32 bits between them
+parted() {
+    sed -i -E "s/(extractvalue \{ ($1), $2 \} [^,]*, )1/\12/; s/\{ ($1), $2 \}/{ \1, i32, $2 }/g" "$3"
 }
 
 # compiled MODULE OBJECT TARGET OPTIONS..: the proved module through the kit's own clang for any target that it has

@@ -3,3 +3,4 @@ mod LevelLaws
 mod PassLaws
 mod ShapeLaws
 mod LentLaws
+mod StatesLaws

@@ -255,22 +255,29 @@ step-rises L i v b g two l p q e =
 
 -- ---- the state of a block by its shape
 
-module _ (L : ℕ) (b : List ℕ) (two : 2 ≤ length b) (g : 0 < L) (low : Low L b) (s : Shape) (is : s ≡ shape_of L b) where
+-- what is known of a block once its shape s is found
+pub record ShapeFound (L : ℕ) (b : List ℕ) (s : Shape) : Type 0 where
+  pub two : 2 ≤ length b
+  pub pos : 0 < L
+  pub low : Low L b
+  pub is : s ≡ shape_of L b
+
+module _ {L : ℕ} {b : List ℕ} {s : Shape} (k : ShapeFound L b s) where
   -- the rises of the shape that was found
   rises-is : s.rises ≡ rises (last_of 0 b) b
-  rises-is = ap (λ (r : Shape). r.rises) is
+  rises-is = ap (λ (r : Shape). r.rises) k.is
 
   -- the cells above 0 of the shape that was found
   nonzero-is : s.nonzero ≡ nonzero b
-  nonzero-is = ap (λ (r : Shape). r.nonzero) is
+  nonzero-is = ap (λ (r : Shape). r.nonzero) k.is
 
   -- the cells at the top level of the shape that was found
   tops-is : s.tops ≡ tops L b
-  tops-is = ap (λ (r : Shape). r.tops) is
+  tops-is = ap (λ (r : Shape). r.tops) k.is
 
   -- what 256 leaves of the sum, of the shape that was found
   total-is : s.total ≡ sum b % 256
-  total-is = ap (λ (r : Shape). r.total) is
+  total-is = ap (λ (r : Shape). r.total) k.is
 
   -- no more cells are at the top level than there are
   pub shape-few : s.tops ≤ length b
@@ -278,11 +285,11 @@ module _ (L : ℕ) (b : List ℕ) (two : 2 ≤ length b) (g : 0 < L) (low : Low 
 
   -- a block with no cell above 0 is empty
   pub shape-empty : s.nonzero ≡ 0 → empty ≡ state_of (length b) L b
-  shape-empty e = state-empty L b (sum b) refl two g low (nonzero-none b (sym nonzero-is ∙ e))
+  shape-empty e = state-empty L b (sum b) refl k.two k.pos k.low (nonzero-none b (sym nonzero-is ∙ e))
 
   -- a block with every cell at the top level is full
   pub shape-full : s.tops ≡ length b → full ≡ state_of (length b) L b
-  shape-full e = state-full L b (sum b) refl two g low (tops-all L b low (sym tops-is ∙ e))
+  shape-full e = state-full L b (sum b) refl k.two k.pos k.low (tops-all L b k.low (sym tops-is ∙ e))
 
   module _ (some : s.nonzero ≢ 0) (part : s.tops ≢ length b) where
     -- with a cell above 0 the sum is not 0
@@ -291,25 +298,25 @@ module _ (L : ℕ) (b : List ℕ) (two : 2 ≤ length b) (g : 0 < L) (low : Low 
 
     -- with a cell below L the sum is not as great as can be
     not_full : sum b ≢ length b * L
-    not_full e = part (omega (arith, tops-is, tops-few L b, tops-some L b low))
+    not_full e = part (omega (arith, tops-is, tops-few L b, tops-some L b k.low))
 
     -- one rise and at most one middle: the start is the cell that rises, and the weight is the one number that fits the cells at L and what 256 leaves of the sum
     pub shape-active : length b ≤ 256 → L < 256 → s.rises ≡ 1 → s.nonzero ≤ s.tops + 1 → (v : ℕ) → (s.tops * L ≤ v) × (v < s.tops * L + 256) × (v % 256 ≡ s.total) → active s.start v ≡ state_of (length b) L b
     shape-active short byte o m v w =
         let one : rises (last_of 0 b) b ≡ 1 = sym rises-is ∙ o in
-        let few : middles L b ≤ 1 = omega (arith, nonzero-is, tops-is, nonzero-are L g b) in
+        let few : middles L b ≤ 1 = omega (arith, nonzero-is, tops-is, nonzero-are L k.pos b) in
         let t : s.tops * L ≡ tops L b * L = ap (λ (n : ℕ). n * L) tops-is in
-        let rest = tops-rest L g b low few in
+        let rest = tops-rest L k.pos b k.low few in
         let weight : v ≡ sum b = omega (arith, w, t, rest, total-is) in
         let i : ℕ = rise_cells 0 (last_of 0 b) b in
-        let start : s.start ≡ i = ap (λ (r : Shape). r.start) is ∙ omega (arith, start-in L b low one) in
+        let start : s.start ≡ i = ap (λ (r : Shape). r.start) k.is ∙ omega (arith, start-in L b k.low one) in
         ap₂ active start weight
-        ∙ sym (state-one (length b) L (omega arith) g (active i (sum b)) b (start-in L b low one, omega (arith, not-empty), under L b (sum b) refl two g low not-empty not_full, shape-step L b low one few))
+        ∙ sym (state-one (length b) L (omega arith) k.pos (active i (sum b)) b (start-in L b k.low one, omega (arith, not-empty), under L b (sum b) refl k.two k.pos k.low not-empty not_full, shape-step L b k.low one few))
 
     -- a block with no rise, or with more than one, is broken
     pub shape-rises : s.rises ≢ 1 → broken ≡ state_of (length b) L b
-    shape-rises n = off-all L b (sum b) refl two g low not-empty not_full (λ j l e. n (rises-is ∙ step-rises L j (sum b) b g two l (omega (arith, not-empty)) (under L b (sum b) refl two g low not-empty not_full) e))
+    shape-rises n = off-all L b (sum b) refl k.two k.pos k.low not-empty not_full (λ j l e. n (rises-is ∙ step-rises L j (sum b) b k.pos k.two l (omega (arith, not-empty)) (under L b (sum b) refl k.two k.pos k.low not-empty not_full) e))
 
     -- a block with more than one middle is broken
     pub shape-middles : s.tops + 1 < s.nonzero → broken ≡ state_of (length b) L b
-    shape-middles h = off-all L b (sum b) refl two g low not-empty not_full (λ j l e. omega (arith, nonzero-is, tops-is, nonzero-are L g b, step-middles (length b) L j (sum b), ap (middles L) e))
+    shape-middles h = off-all L b (sum b) refl k.two k.pos k.low not-empty not_full (λ j l e. omega (arith, nonzero-is, tops-is, nonzero-are L k.pos b, step-middles (length b) L j (sum b), ap (middles L) e))

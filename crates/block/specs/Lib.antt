@@ -2,3 +2,4 @@
 pub mod Meaning
 pub mod StateLaws
 pub mod StartLaws
+pub mod States

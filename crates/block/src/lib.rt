@@ -1,6 +1,8 @@
 // One block: its shape, its state and its next step. Assumes nothing.
 #![tactic(auto)]
 
+pub mod states;
+
 ghost use Rattle.std.specs.Prelude.{◌≡◌, ◌+◌, ◌-◌, ◌*◌, ◌/◌, ◌%◌, ◌<◌, ◌≤◌, ◌++◌, length, take, drop};
 ghost use Rattle.std.proofs.Math.Decide.{dec_lt};
 ghost use Rattle.rules.specs.Accept.{most_bits};
@@ -9,18 +11,18 @@ ghost use Rattle.rules.specs.Cells.{Low, block, store};
 ghost use Rattle.rules.specs.Block.{cycle, state_of};
 ghost use Rattle.block.specs.Meaning.{as_state, higher, shape_of};
 
-// A block's state; an active block has its bit and its weight.
+// A block's state.
 #[derive(Clone, Copy)]
 pub enum BlockState {
     Empty,
     Full,
-    Active(usize, usize),
+    Active { bit: usize, weight: usize },
     Broken,
 }
 
 // A block's shape: how many cells are higher than the one before them, and the sum of their numbers; how many are above 0, and how many at the top level; the sum of all levels.
 // Each is a byte, so that many cells are looked at together; of the two sums it is what 256 leaves.
-#[derive(Clone, Copy)]
+#[derive(Clone, Copy, Default)]
 struct Shape {
     rises: u8,
     start: u8,
@@ -33,7 +35,7 @@ struct Shape {
 fn higher(a: u8, x: u8) -> u8
     ensures { (result ≤ 1) × (result ≡ higher a x) }
 {
-    if a < x { 1 } else { 0 }
+    u8::from(a < x)
 }
 
 // The number of a cell that is higher than the one before it, else 0.
@@ -43,45 +45,25 @@ fn rise_at(before: u8, x: u8, cell: u8) -> u8
     if before < x { cell } else { 0 }
 }
 
-// 1 for a cell that is not below the top level, else 0.
-fn at_top(x: u8, top: u8) -> u8
-    ensures { (result ≤ 1) × (result ≡ 1 - higher x top) }
-{
-    if x < top { 0 } else { 1 }
-}
-
 // A block's shape, each cell fetched once and the first once more: the cell before is carried along, and at the end the first is held against the last.
-// No cell ends the loop early, so that many cells are looked at together; 255 comes before cell 0, as no level is higher.
+// No cell ends the loop early, so that many cells are looked at together; the highest byte comes before cell 0, as no level is higher.
 fn shape_of(b: &[u8], top: u8) -> Shape
     requires { (2 ≤ length b.now) × (length b.now ≤ most_bits) }
     ensures { result ≡ shape_of top b.now }
 {
-    let mut rises: u8 = 0;
-    let mut start: u8 = 0;
-    let mut nonzero: u8 = 0;
-    let mut tops: u8 = 0;
-    let mut total: u8 = 0;
-    let mut before: u8 = 255;
-    let mut i: usize = 0;
-    while i < b.len() {
-        let x = b[i];
-        rises += higher(before, x);
-        start = std::num::wrapping_add_u8(start, rise_at(before, x, i as u8));
-        nonzero += higher(0, x);
-        tops += at_top(x, top);
-        total = std::num::wrapping_add_u8(total, x);
+    let mut shape = Shape::default();
+    let mut before = u8::MAX;
+    for (i, &x) in b.iter().enumerate() {
+        shape.rises += higher(before, x);
+        shape.start = shape.start.wrapping_add(rise_at(before, x, i as u8));
+        shape.nonzero += higher(0, x);
+        shape.tops += 1 - higher(x, top);
+        shape.total = shape.total.wrapping_add(x);
         before = x;
-        i += 1;
     }
     let first = b[0];
-    rises += higher(before, first);
-    Shape {
-        rises,
-        start,
-        nonzero,
-        tops,
-        total,
-    }
+    shape.rises += higher(before, first);
+    shape
 }
 
 // The weight of a block on a cycle: so many cells at the top level and less than 256 besides, which the byte that 256 leaves of the weight tells.
@@ -90,7 +72,7 @@ fn weight_of(tops: u8, top: u8, total: u8) -> usize
     ensures { (tops * top ≤ result) × (result < tops * top + 256) × (result % 256 ≡ total) }
 {
     let whole = tops as usize * top as usize;
-    whole + std::num::wrapping_sub_u8(total, (whole % 256) as u8) as usize
+    whole + total.wrapping_sub((whole % 256) as u8) as usize
 }
 
 // The state of a block whose levels are at most the top level.
@@ -112,10 +94,10 @@ pub fn state_of(b: &[u8], top: u8) -> BlockState
     if shape.tops + 1 < shape.nonzero {
         return BlockState::Broken;
     }
-    BlockState::Active(
-        shape.start as usize,
-        weight_of(shape.tops, top, shape.total),
-    )
+    BlockState::Active {
+        bit: shape.start as usize,
+        weight: weight_of(shape.tops, top, shape.total),
+    }
 }
 
 // The next step of a block on the cycle of a bit, in a part of the sheet that begins with the block: one cell is raised.

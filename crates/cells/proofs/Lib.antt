@@ -1,3 +1,4 @@
 -- The laws that only the proofs of this crate cite.
 mod Laws
 mod RunLaws
+pub mod LiveLaws

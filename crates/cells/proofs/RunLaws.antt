@@ -2,17 +2,15 @@
 use mathlib.Core.List.{List, [], ◌∷◌}
 use mathlib.Core.Logic.{◌≢◌}
 use mathlib.Core.Path.{◌≡◌, ◌∙◌, ap, refl, subst, sym}
-use Prim.Native.Nat.{ℕ, zero, suc, ◌+◌, ◌-◌, ◌*◌, ◌/◌, ◌≤◌, ◌<◌, min, suc-le-suc, zero-le}
-use native.Mathlib.Decide.{dec_lt, ℕ_discrete}
+use Prim.Native.Nat.{ℕ, zero, suc, ◌+◌, ◌-◌, ◌*◌, ◌/◌, ◌≤◌, ◌<◌, suc-le-suc, zero-le}
+use native.Mathlib.Decide.{dec_lt}
 use native.Mathlib.Nat.{add-mul, div-mul-le_self, le-div_iff_mul-le, le_of_suc-le-suc, not-suc-le-zero}
 use native.Mathlib.Omega.{arith}
-use lib.ListN.{drop, get_or, length, length-drop, take}
+use lib.ListN.{drop, length, length-drop, take}
 use lib.Seq.{length-take-le}
 use Rattle.laws.specs.Cut.{block-fits}
 use Rattle.laws.specs.Splice.{part, part-part}
 use Rattle.rules.specs.Cells.{block, sum}
-use Rattle.rules.specs.Search.{pick}
-use Rattle.rules.specs.SearchLaws.{pick-elim}
 use Rattle.cells.specs.Laws.{greatest-low, part-nothing}
 use Rattle.cells.specs.Meaning.{Leads, RunAt, RunFrom, greatest_of, least_of, run}
 
@@ -53,17 +51,6 @@ part-weight L a n s h l =
 
 -- ---- the front of a run
 
--- where no cell before cell i in the front is below a level, none before cell i + 1 is, the front cut at cell i if that is below
-pub lead-more : (v n i : ℕ) (s : List ℕ) → ((x : ℕ) → x < i → x < n → v ≤ get_or s x 0) → (x : ℕ) → x < i + 1 → x < min n (pick (dec_lt (get_or s i 0) v) i 255) → v ≤ get_or s x 0
-lead-more v n i s f x l =
-    pick-elim (λ y. x < min n y → v ≤ get_or s x 0) (dec_lt (get_or s i 0) v) i 255
-    (λ h m. f x (omega arith) (omega arith))
-    (λ h m. go h (omega arith) (ℕ_discrete x i))
-  where
-    go : ¬ (get_or s i 0 < v) → x < n → Dec (x ≡ i) → v ≤ get_or s x 0
-    go h m (yes e) = subst (λ (y : ℕ). v ≤ get_or s y 0) (sym e) (omega arith)
-    go h m (no e) = f x (omega arith) m
-
 -- where no cell before cell n is below a level, the least of the first n is not
 leads-least : (v n : ℕ) (s : List ℕ) → v ≤ 255 → n ≤ length s → Leads v s n → v ≤ least_of (take n s)
 unfolding least_of
@@ -72,8 +59,8 @@ leads-least v (suc n) [] h l f = absurd (not-suc-le-zero l)
 leads-least v (suc n) (x ∷ s) h l f = omega (arith, f 0 (suc-le-suc zero-le), leads-least v n s h (le_of_suc-le-suc l) (λ y m. f (suc y) (suc-le-suc m)))
 
 -- the whole blocks that end before the first cell below a level pass for a run at it
-pub front-run : (len v r : ℕ) (b : List ℕ) → 1 ≤ len → v ≤ 255 → v ≢ 0 → length b ≤ run → r ≤ length b → Leads v b r
-    → (r / len ≤ run / len) × (r / len * len ≤ length b) × RunAt v (take (r / len * len) b)
+pub front-run : (len v r : ℕ) (b : List ℕ) → 1 ≤ len → v ≤ 255 → v ≢ 0 → length b ≡ run → r ≤ run → Leads v b r
+    → (r / len ≤ run / len) × (r / len * len ≤ run) × RunAt v (take (r / len * len) b)
 front-run len v r b g h o n l f =
     let e : r / len * len ≤ r = div-mul-le_self r len in (
       (le-div_iff_mul-le {k = len} {x = r / len} {y = run} g).1 (omega arith),
@@ -82,9 +69,9 @@ front-run len v r b g h o n l f =
     )
 
 -- no block at all passes for a run at any level
-pub front-none : (len v : ℕ) (b : List ℕ) → v ≤ 255 → (0 ≤ run / len) × (0 * len ≤ length b) × RunAt v (take (0 * len) b)
+pub front-none : (len v step : ℕ) (b : List ℕ) → v ≤ 255 → (0 ≤ step) × (0 * len ≤ run) × RunAt v (take (0 * len) b)
 unfolding least_of greatest_of
-front-none len v b h =
+front-none len v step b h =
     let z : 0 ≡ 0 * len = omega arith in
     (omega arith, omega arith, subst (λ (n : ℕ). RunAt v (take n b)) z (h, λ e. refl))
 

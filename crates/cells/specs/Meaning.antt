@@ -1,9 +1,6 @@
 -- What the answers on runs of cells mean, as definitions of the rules. Assumes nothing.
 use Rattle.std.specs.Prelude.{List, [], ◌∷◌, ◌≡◌, ℕ, ◌*◌, ◌≤◌, ◌<◌, max, min, get_or}
 use Rattle.rules.specs.Cells.{block, sum}
-use Rattle.rules.specs.Search.{Found, at, nowhere}
-use Rattle.cells.specs.declared.Level.{Level}
-use Rattle.cells.specs.declared.Level.TheVariants.{Fine, Above}
 
 -- how many cells are compared at a time where blocks are passed over
 abbrev pub run : ℕ
@@ -30,8 +27,3 @@ Leads v cells n = (x : ℕ) → x < n → v ≤ get_or cells x 0
 -- every block from one number up to another weighs what one at level v does, or more, and nothing if v is 0
 abbrev pub RunFrom : ℕ → ℕ → List ℕ → ℕ → ℕ → Type 0
 RunFrom len v cells from to = (x : ℕ) → from ≤ x → x < to → (len * v ≤ sum (block len cells x)) × (v ≡ 0 → sum (block len cells x) ≡ 0)
-
--- the place that a look at the levels found
-abbrev pub as_found : Level → Found
-as_found Fine = nowhere
-as_found (Above c) = at c

@@ -1,6 +1,9 @@
 -- Laws of the program's loop: a record more, a turn more, and the end. Assumes nothing.
-use Rattle.std.specs.Prelude.{◌≡◌, refl, List, [], ◌∷◌, ◌++◌, ℕ, zero, suc, min, ◌+◌, ◌-◌, ◌≤◌, ◌<◌, length, get_or, take, drop, set}
-use Rattle.std.proofs.Common.{sym, ap, ap₂, ◌∙◌, subst, not-suc-le-zero, arith, add-one, length-take, length-drop, length-take-le, take-take, take-suc, take-suc-set, drop-set-lt, drop-drop, get_or-drop, take-add}
+use Rattle.std.specs.Prelude.{◌≡◌, refl, List, [], ◌∷◌, ◌++◌, ℕ, zero, suc, min, ◌+◌, ◌-◌, ◌/◌, ◌≤◌, ◌<◌, length, get_or, take, drop, set}
+use Rattle.std.proofs.Common.{sym, ap, ap₂, ◌∙◌, subst, not-suc-le-zero, arith, add-one, length-append, length-take, length-drop, length-take-le, take_at, drop_at, take-take, take-suc, take-suc-set, drop-set-lt, drop-drop, get_or-drop, take-add}
+use Rattle.std.proofs.Math.Decide.{dec_le}
+use Rattle.std.proofs.Math.Seq.{paste}
+use Rattle.std.specs.List.{copy_within}
 use Rattle.rules.specs.Accept.{refused}
 use Rattle.rules.specs.Cells.{chop, join}
 use Rattle.rules.specs.Records.{record_step}
@@ -40,6 +43,31 @@ piece-step xs a e left r s cells ys q p l f o =
     ∙ ap (λ (rec : List ℕ). in_turn (after_record (sheet_held r cells) rec) (chop 8 (left - 1) (drop e xs))) (sym f.part)
     ∙ ap (λ (z : Settings × List ℕ). in_turn (sheet_held z.0 z.1) (chop 8 (left - 1) (drop e xs))) (sym o)
 
+-- a record cut off the front, 8 bytes or all that there are
+cut-off : (xs : List ℕ) (a : ℕ) → a ≡ min 8 (length xs) → Front 8 xs a
+cut-off xs a e = go (dec_le 8 (length xs))
+  where
+    go : Dec (8 ≤ length xs) → Front 8 xs a
+    go (yes h) = let q : 8 ≡ a = omega arith in subst (Front 8 xs) q (front-part 8 xs h)
+    go (no h) = let q : length xs ≡ a = omega arith in subst (Front 8 xs) q (front-all 8 xs (omega arith))
+
+-- it is the first record, and the records of the bytes after it are the others
+pub first-record : (xs x rest : List ℕ) → xs ≡ x ++ rest → length x ≡ min 8 (length xs) → 0 < length xs → records_of xs ≡ x ∷ records_of rest
+unfolding records_of
+first-record xs x rest e l p =
+    let f = cut-off xs (length x) l in
+    let n : (length xs + 7) / 8 ≡ suc ((length rest + 7) / 8) = omega (arith, ap length e, length-append x rest) in
+    ap (λ (k : ℕ). chop 8 k xs) n
+    ∙ ap₂ (λ (a b : List ℕ). a ∷ chop 8 ((length rest + 7) / 8) b)
+    (sym f.part ∙ ap (take (length x)) e ∙ take_at x rest (length x) refl)
+    (sym f.rest ∙ ap (drop (length x)) e ∙ drop_at x rest (length x) refl)
+
+-- no bytes have no records
+pub no-record : (xs : List ℕ) → length xs ≡ 0 → records_of xs ≡ []
+unfolding records_of
+no-record [] e = refl
+no-record (x ∷ xs) e = absurd (omega arith)
+
 -- ---- the rest is kept
 
 -- one byte more at the front
@@ -60,6 +88,12 @@ pub keep-after : (xs ys : List ℕ) (i v : ℕ) → drop i ys ≡ drop i xs → 
 keep-after xs ys i v d = drop-set-lt (i + 1) ys i v (omega arith) ∙ sym (drop-drop 1 i ys) ∙ ap (drop 1) d ∙ drop-drop 1 i xs
 
 -- ---- one turn more
+
+-- the bytes moved to the front are then in front
+pub rest-kept : (xs : List ℕ) (w n : ℕ) → n ≤ length (drop w xs) → take n (copy_within xs w (w + n) 0) ≡ take n (drop w xs)
+rest-kept xs w n h =
+    let e : w + n - w ≡ n = omega arith in
+    ap (λ (k : ℕ). take n (paste xs 0 (drop w xs) k)) e ∙ take_at (take n (drop w xs)) (drop (0 + n) xs) n (length-take-le n (drop w xs) h)
 
 -- what is obeyed and what is kept are a turn
 pub turn-made : {g : SheetHeld} {rest : List ℕ} (h : SheetHeld) (xs : List ℕ) (hand : ℕ) → hand ≤ length xs → g ≡ in_turn h (records_of (take (whole_bytes hand) xs)) → rest ≡ take (hand - whole_bytes hand) (drop (whole_bytes hand) xs) →
@@ -102,9 +136,9 @@ reading-turned h xs waiting count p l =
     ∙ reading-some (between h (take waiting xs)) (take count (drop waiting xs)) (omega (arith, length-take-le count (drop waiting xs) (omega (arith, length-drop waiting xs)), length-drop waiting xs))
 
 -- a reading of some bytes after those that wait, and its turn
-pub piece-more : {before after : List ℕ} {r s : Settings} {ys rest : List ℕ} (old new : List ℕ) (waiting count : ℕ) → OfPieces before r after (take waiting old) → take waiting new ≡ take waiting old → 0 < count → waiting + count ≤ length new →
+pub piece-more : {before after : List ℕ} {r s : Settings} {ys rest old : List ℕ} (new : List ℕ) (waiting count : ℕ) → OfPieces before r after old → take waiting new ≡ old → 0 < count → waiting + count ≤ length new →
     between (sheet_held s ys) rest ≡ reading_of (between (sheet_held r after) (take waiting new)) (take count (drop waiting new)) → OfPieces before s ys rest
-piece-more {before} {after} {r} old new waiting count o e p l t = record {
+piece-more {before} {after} {r} new waiting count o e p l t = record {
   pieces = o.pieces ++ (take count (drop waiting new) ∷ []);
   leaves =
       t ∙ sym (reading-turned (sheet_held r after) new waiting count p l)
@@ -131,8 +165,8 @@ input-ended {before} o e = record {
 }
 
 -- after a reading the records so far are those of an input: all of it, where it has ended
-pub input-read : {before after : List ℕ} {r s : Settings} {ys rest : List ℕ} (old new : List ℕ) (waiting count : ℕ) → OfPieces before r after (take waiting old) → take waiting new ≡ take waiting old → waiting + count ≤ length new →
+pub input-read : {before after : List ℕ} {r s : Settings} {ys rest old : List ℕ} (new : List ℕ) (waiting count : ℕ) → OfPieces before r after old → take waiting new ≡ old → waiting + count ≤ length new →
     between (sheet_held s ys) rest ≡ reading_of (between (sheet_held r after) (take waiting new)) (take count (drop waiting new)) → OfInput before s ys
-input-read {after = after} {r = r} old new waiting zero o e l t =
+input-read {after = after} {r = r} new waiting zero o e l t =
     input-ended o (ap (λ (b : Between). b.held) t ∙ ap (λ (zs : List ℕ). in_turn (sheet_held r after) (records_of zs)) e)
-input-read old new waiting (suc n) o e l t = input-stopped (piece-more old new waiting (suc n) o e (omega arith) l t)
+input-read new waiting (suc n) o e l t = input-stopped (piece-more new waiting (suc n) o e (omega arith) l t)

@@ -2,10 +2,11 @@
 #![tactic(auto)]
 
 ghost use Rattle.std.specs.Prelude.{◌≡◌};
+ghost use Rattle.rules.specs.Answer.{number_of, value_of};
 ghost use Rattle.rules.specs.Interface.{record_of};
 ghost use Rattle.rules.specs.Promises.{SettingsIntoPromise, EraseByPromise, ReadByPromise, ChangeByPromise, VersionPromise};
 
-use rules::Settings;
+use rules::{Answer, Settings};
 
 // The version of this interface.
 const VERSION: usize = 3;
@@ -14,18 +15,26 @@ const VERSION: usize = 3;
 fn record_of(numbers: &[usize]) -> Settings
     ensures { result ≡ record_of numbers.now }
 {
-    if numbers.len() != 7 {
+    let &[kind, k, top, n, m, s, w] = numbers else {
         return rules::REFUSED;
-    }
+    };
     Settings {
-        kind: numbers[0],
-        k: numbers[1],
-        top: numbers[2],
-        n: numbers[3],
-        m: numbers[4],
-        s: numbers[5],
-        w: numbers[6],
+        kind,
+        k,
+        top,
+        n,
+        m,
+        s,
+        w,
     }
+}
+
+// What every call hands back of its answer: the number, with the value written.
+fn hand_back(answer: Answer, value: &mut usize) -> usize
+    ensures { (result ≡ number_of answer) × (value.new ≡ value_of answer) }
+{
+    *value = answer.value();
+    answer.number()
 }
 
 // Settings: the record is written as seven numbers, of zeros where the settings are refused; other than seven places is BadShape, and none is written. Hands back the answer's number and writes its value.
@@ -41,21 +50,12 @@ pub extern "C" fn harpginger_settings(
     ensures { SettingsIntoPromise kind k top n numbers.old result value.new numbers.new }
 {
     if numbers.len() != 7 {
-        *value = 0;
-        return 1;
+        return hand_back(Answer::BadShape, value);
     }
     let setup = Settings::accept(kind, k, top, n);
     let r = setup.settings;
-    numbers[0] = r.kind;
-    numbers[1] = r.k;
-    numbers[2] = r.top;
-    numbers[3] = r.n;
-    numbers[4] = r.m;
-    numbers[5] = r.s;
-    numbers[6] = r.w;
-    let answer = setup.answer;
-    *value = answer.value();
-    answer.number()
+    numbers.copy_from_slice(&[r.kind, r.k, r.top, r.n, r.m, r.s, r.w]);
+    hand_back(setup.answer, value)
 }
 
 // Erase: all n cells are set to 0. Hands back the answer's number and writes its value.
@@ -63,10 +63,8 @@ pub extern "C" fn harpginger_settings(
 pub extern "C" fn harpginger_erase(numbers: &[usize], sheet: &mut [u8], value: &mut usize) -> usize
     ensures { EraseByPromise numbers.now sheet.old result value.new sheet.new }
 {
-    let settings = record_of(numbers);
-    let answer = sheet::erase(settings, sheet);
-    *value = answer.value();
-    answer.number()
+    let answer = sheet::erase(record_of(numbers), sheet);
+    hand_back(answer, value)
 }
 
 // Read: the k bits are written, 0 or 1, bit 0 first. Hands back the answer's number and writes its value.
@@ -79,10 +77,8 @@ pub extern "C" fn harpginger_read(
 ) -> usize
     ensures { ReadByPromise numbers.now sheet.now out.old result value.new out.new }
 {
-    let settings = record_of(numbers);
-    let answer = sheet::read(settings, sheet, out);
-    *value = answer.value();
-    answer.number()
+    let answer = sheet::read(record_of(numbers), sheet, out);
+    hand_back(answer, value)
 }
 
 // Change of one bit: the sheet of the encoding map, or Erase where it finds no place. Hands back the answer's number and writes its value.
@@ -95,10 +91,8 @@ pub extern "C" fn harpginger_change(
 ) -> usize
     ensures { ChangeByPromise numbers.now sheet.old bit result value.new sheet.new }
 {
-    let settings = record_of(numbers);
-    let answer = sheet::change(settings, sheet, bit);
-    *value = answer.value();
-    answer.number()
+    let answer = sheet::change(record_of(numbers), sheet, bit);
+    hand_back(answer, value)
 }
 
 // Hands back the version of this interface, which the caller compares with its header's.

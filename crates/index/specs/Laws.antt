@@ -1,19 +1,19 @@
 -- Laws of index blocks: the number that digits stand for, digit by digit, and the digits of a number above a floor. Assumes nothing.
 use Rattle.std.specs.Prelude.{List, [], ◌++◌, ◌∷◌, ◌≡◌, refl, ◌%◌, ◌*◌, ◌+◌, ◌-◌, ◌/◌, ◌<◌, ◌^◌, ◌≤◌, suc, zero, ℕ, drop, get_or, length, replicate, set, take}
-use Rattle.std.proofs.Common.{append_assoc, append-nil, ⊎_elim, ◌∙◌, ap, subst, sym, div-add-mod', div-lt_iff_lt-mul, eq-or-lt_of_le, le_of_suc-le-suc, mod-lt, not-suc-le-zero, pow-suc, add-one, arith, length-append, drop_at, length-take-le, take-suc}
+use Rattle.std.proofs.Common.{append_assoc, append-nil, le_refl, ⊎_elim, ◌∙◌, ap, subst, sym, div-add-mod', div-lt_iff_lt-mul, eq-or-lt_of_le, le_of_suc-le-suc, mod-lt, not-suc-le-zero, pow-suc, add-one, arith, length-append, drop_at, length-take-le, take-suc}
 use Rattle.std.proofs.Math.Nat.{pow-le-pow_right, pow-zero}
-use Rattle.std.proofs.lemmas.List.{length-replicate, get_or_at}
-use Rattle.std.proofs.Math.Seq.{drop-length}
+use Rattle.std.proofs.lemmas.List.{length-replicate, replicate-append-replicate, get_or_at}
+use Rattle.std.proofs.Math.Seq.{drop-length, take_all}
 use Rattle.laws.specs.Cut.{block-fits, length-block, part-block}
 use Rattle.laws.specs.Index.{digits_low, digits-num, length_digits, num-digits, num-full, num-lt}
 use Rattle.laws.specs.Lists.{low-append, low-replicate, low-take}
-use Rattle.laws.specs.Regions.{Steady, get_or-less, length-less, length-plus, less, less-low, less-nothing, plus, plus-append, plus-nothing, steady-block}
+use Rattle.laws.specs.Regions.{Steady, get_or-less, length-less, length-plus, less, less-low, less-nothing, plus, plus-append, plus-nothing, steady-at, steady-block}
 use Rattle.rules.specs.Batches.{digits, entry_cells, entry_of, number}
 use Rattle.rules.specs.Cells.{Low, block, same?}
 use Rattle.rules.specs.SearchLaws.{pick_no, pick_yes}
 use Rattle.rules.specs.Stage.{Entry, closed, index}
 use Rattle.index.specs.declared.Region.{Region}
-use Rattle.index.specs.Meaning.{BatchFits, ClosedFrom, cells_at, entry_at, said}
+use Rattle.index.specs.Meaning.{BatchFits, ClosedFrom, Holds, before_last, cells_at, entry_at, last_digit, said}
 
 -- ---- the number of an index block
 
@@ -97,6 +97,53 @@ module _ (floor L : ℕ) (b : List ℕ) where
       let n : length (less floor b) ≡ length b = length-less floor b in
       ap (λ (x : ℕ). entry_of L x (less floor b)) (sym n) ∙ entry-number L (less floor b) (λ e. h (e ∙ ap (λ (x : ℕ). suc L ^ x) n))
 
+-- the number of the first i digits above the floor, and the base to the i
+pub record ReadTo (floor L : ℕ) (b : List ℕ) (i n p : ℕ) : Type 0 where
+  pub number : n ≡ number (suc L) (take i (less floor b))
+  pub power : p ≡ suc L ^ i
+
+-- no digit is read at first
+pub read-none : (floor L : ℕ) (b : List ℕ) → ReadTo floor L b 0 0 1
+read-none floor L b = record { number = number-none (suc L); power = sym (pow-zero (suc L)) }
+
+-- what a loop reads of one digit more
+pub record DigitRead (floor L : ℕ) (b : List ℕ) (i n p : ℕ) : Type 0 where
+  pub above : floor ≤ get_or b i 0
+  pub below : n * (L + 1) + (get_or b i 0 - floor) < p * (L + 1)
+  pub fits : p * (L + 1) ≤ suc L ^ length b
+  pub more : ReadTo floor L b (i + 1) (n * (L + 1) + (get_or b i 0 - floor)) (p * (L + 1))
+
+pub digit-read : (floor L : ℕ) (b : List ℕ) (i n p : ℕ) → ReadTo floor L b i n p → Steady L floor b → i < length b → DigitRead floor L b i n p
+digit-read floor L b i n p r s h =
+    let m : n * (L + 1) + (get_or b i 0 - floor) ≡ number (suc L) (take (i + 1) (less floor b)) =
+    ap (λ (x : ℕ). x * (L + 1) + (get_or b i 0 - floor)) r.number ∙ ap (λ (x : ℕ). number (suc L) (take i (less floor b)) * x + (get_or b i 0 - floor)) (add-one L) ∙ sym (number-above floor L b i h) in
+    let q : p * (L + 1) ≡ suc L ^ (i + 1) = ap (λ (x : ℕ). x * (L + 1)) r.power ∙ ap (λ (x : ℕ). suc L ^ i * x) (add-one L) ∙ sym (power-one (suc L) i) in
+    record {
+      above = (steady-at L floor b s i h).0;
+      below = omega (arith, m, q, number-above-lt floor L b (i + 1) s (omega arith));
+      fits = omega (arith, q, power_le L (i + 1) (length b) (omega arith));
+      more = record { number = m; power = q };
+    }
+
+-- the number of fewer digits is no greater than the base to all of them
+pub read-small : (floor L : ℕ) (b : List ℕ) (i n p : ℕ) → ReadTo floor L b i n p → Steady L floor b → i ≤ length b → n < suc L ^ length b
+read-small floor L b i n p r s h =
+    omega (arith, r.number, number-above-lt floor L b i s h, power_le L i (length b) h)
+
+-- what the number of all digits says
+pub read-all : (floor L : ℕ) (b : List ℕ) (i n p : ℕ) → ReadTo floor L b i n p → i ≡ length b → n ≡ number (suc L) (less floor b)
+read-all floor L b i n p r e =
+    r.number ∙ ap (number (suc L)) (take_all i (less floor b) (omega (arith, length-less floor b)))
+
+pub read-full : (floor L : ℕ) (b : List ℕ) (i n p : ℕ) → ReadTo floor L b i n p → Steady L floor b → i ≡ length b → n + 1 ≡ p → closed ≡ said floor L (length b) b
+read-full floor L b i n p r s e q =
+    sym (said-full floor L b s (ap (λ (x : ℕ). x + 1) (sym (read-all floor L b i n p r e)) ∙ q ∙ r.power ∙ ap (λ (x : ℕ). suc L ^ x) e))
+
+pub read-number : (floor L : ℕ) (b : List ℕ) (i n p : ℕ) → ReadTo floor L b i n p → i ≡ length b → ¬ (n + 1 ≡ p) → index n ≡ said floor L (length b) b
+read-number floor L b i n p r e q =
+    let t : n ≡ number (suc L) (less floor b) = read-all floor L b i n p r e in
+    ap index t ∙ sym (said-number floor L b (λ x. q (ap (λ (y : ℕ). y + 1) t ∙ x ∙ sym (r.power ∙ ap (λ (y : ℕ). suc L ^ y) e))))
+
 -- ---- the digits of a number
 
 -- what is left without the last digit
@@ -120,7 +167,27 @@ digits-snoc L w u h =
     ∙ ap (λ (x : ℕ). digits (suc L) x (number (suc L) (b ++ (u % suc L ∷ [])))) (sym e)
     ∙ digits-num L (b ++ (u % suc L ∷ [])) (low-append L b (u % suc L ∷ []) (digits_low L w (u / suc L) (rest_lt L w u h)) (le_of_suc-le-suc r, tt))
 
--- ---- the digits of a number above a floor, the last one first
+-- ---- the digits of what an index block says, the last one first
+
+-- the last digit is at most L
+pub last_digit-low : (L : ℕ) (e : Entry) → last_digit L e ≤ L
+last_digit-low L (index u) = le_of_suc-le-suc (mod-lt u (omega arith))
+last_digit-low L closed = le_refl L
+
+-- fewer cells can say what the digits before it say
+pub holds-before : (L w : ℕ) (e : Entry) → Holds L (suc w) e → Holds L w (before_last L e)
+holds-before L w (index u) h = rest_lt L w u h
+holds-before L w closed h = tt
+
+-- the last digit stands apart
+cells-snoc : (L w : ℕ) (e : Entry) → Holds L (suc w) e → entry_cells L (suc w) e ≡ entry_cells L w (before_last L e) ++ (last_digit L e ∷ [])
+cells-snoc L w (index u) h = digits-snoc L w u h
+cells-snoc L w closed h = sym (replicate-append-replicate w 1 L ∙ ap (λ (n : ℕ). replicate n L) (add-one w))
+
+-- as many cells are written as there are
+pub length-cells : (floor step w : ℕ) (e : Entry) → length (cells_at floor step w e) ≡ w
+length-cells floor step w (index u) = length-plus floor (digits (suc step) w u) ∙ length_digits (suc step) w u
+length-cells floor step w closed = length-plus floor (replicate w step) ∙ length-replicate w step
 
 -- cell j set, and the cells past it
 drop-set : (b : List ℕ) (j v : ℕ) → j < length b → drop j (set b j v) ≡ v ∷ drop (suc j) b
@@ -128,57 +195,71 @@ drop-set [] j v h = absurd (not-suc-le-zero h)
 drop-set (x ∷ b) zero v h = refl
 drop-set (x ∷ b) (suc j) v h = drop-set b j v (le_of_suc-le-suc h)
 
--- digit j of the j + 1 that are left stands before the cells that stand already
-pub digits-peel : (floor L j u : ℕ) (t : List ℕ) → u < suc L ^ suc j
-    → plus floor (digits (suc L) (suc j) u) ++ t ≡ plus floor (digits (suc L) j (u / suc L)) ++ ((floor + u % suc L) ∷ t)
-digits-peel floor L j u t l =
-    ap (λ (r : List ℕ). plus floor r ++ t) (digits-snoc L j u l)
-    ∙ ap (λ (r : List ℕ). r ++ t) (plus-append floor (digits (suc L) j (u / suc L)) (u % suc L ∷ []))
-    ∙ append_assoc (plus floor (digits (suc L) j (u / suc L))) ((floor + u % suc L) ∷ []) t
+module _ (floor L : ℕ) where
+  -- digit j of the j + 1 that are left stands before the cells that stand already
+  cells-peel : (j : ℕ) (e : Entry) (t : List ℕ) → Holds L (suc j) e
+      → cells_at floor L (suc j) e ++ t ≡ cells_at floor L j (before_last L e) ++ ((floor + last_digit L e) ∷ t)
+  cells-peel j e t l =
+      ap (λ (r : List ℕ). plus floor r ++ t) (cells-snoc L j e l)
+      ∙ ap (λ (r : List ℕ). r ++ t) (plus-append floor (entry_cells L j (before_last L e)) (last_digit L e ∷ []))
+      ∙ append_assoc (cells_at floor L j (before_last L e)) ((floor + last_digit L e) ∷ []) t
 
--- what a loop from the last digit writes: digit j of the j + 1 that are left
-pub digits-turn : (floor L j u : ℕ) (b : List ℕ) → j < length b → u < suc L ^ suc j
-    → plus floor (digits (suc L) (suc j) u) ++ drop (suc j) b ≡ plus floor (digits (suc L) j (u / suc L)) ++ drop j (set b j (floor + u % suc L))
-digits-turn floor L j u b h l =
-    digits-peel floor L j u (drop (suc j) b) l
-    ∙ ap (λ (r : List ℕ). plus floor (digits (suc L) j (u / suc L)) ++ r) (sym (drop-set b j (floor + u % suc L) h))
+  -- what a loop from the last digit writes: digit j of the j + 1 that are left
+  cells-one : (j : ℕ) (e : Entry) (b : List ℕ) → j < length b → Holds L (suc j) e
+      → cells_at floor L (suc j) e ++ drop (suc j) b ≡ cells_at floor L j (before_last L e) ++ drop j (set b j (floor + last_digit L e))
+  cells-one j e b h l =
+      cells-peel j e (drop (suc j) b) l
+      ∙ ap (λ (r : List ℕ). cells_at floor L j (before_last L e) ++ r) (sym (drop-set b j (floor + last_digit L e) h))
 
--- at first every digit is still to be written
-pub digits-first : (floor q u : ℕ) (b : List ℕ) → plus floor (digits q (length b) u) ≡ plus floor (digits q (length b) u) ++ drop (length b) b
-digits-first floor q u b =
-    sym (ap (λ (r : List ℕ). plus floor (digits q (length b) u) ++ r) (drop-length b) ∙ append-nil (plus floor (digits q (length b) u)))
+  -- the last of the i digits that are left
+  pub cells-turn : (i : ℕ) (e : Entry) (b : List ℕ) → 0 < i → i ≤ length b → Holds L i e
+      → Holds L (i - 1) (before_last L e)
+      × (cells_at floor L i e ++ drop i b ≡ cells_at floor L (i - 1) (before_last L e) ++ drop (i - 1) (set b (i - 1) (floor + last_digit L e)))
+  cells-turn i e b p h l =
+      let s : i ≡ suc (i - 1) = omega arith in
+      let k : Holds L (suc (i - 1)) e = subst (λ (x : ℕ). Holds L x e) s l in
+      (holds-before L (i - 1) e k, ap (λ (x : ℕ). cells_at floor L x e ++ drop x b) s ∙ cells-one (i - 1) e b (omega arith) k)
 
--- and in the end none
-pub digits_last : (floor q u : ℕ) (b : List ℕ) → plus floor (digits q 0 u) ++ drop 0 b ≡ b
-unfolding digits
-digits_last floor q u b = refl
+  -- at first every digit is still to be written
+  pub cells-first : (e : Entry) (b : List ℕ) → cells_at floor L (length b) e ≡ cells_at floor L (length b) e ++ drop (length b) b
+  cells-first e b =
+      sym (ap (λ (r : List ℕ). cells_at floor L (length b) e ++ r) (drop-length b) ∙ append-nil (cells_at floor L (length b) e))
 
--- cells whose front is the j + 1 digits that are left of u: the last of those, and without it the others are still the front
-digits-one : (floor L j u : ℕ) (ys : List ℕ) → u < suc L ^ suc j → ys ≡ plus floor (digits (suc L) (suc j) u) ++ drop (suc j) ys
-    → (get_or ys j 0 ≡ floor + u % suc L) × (u / suc L < suc L ^ j) × (ys ≡ plus floor (digits (suc L) j (u / suc L)) ++ drop j ys)
-digits-one floor L j u ys l e =
-    let h : List ℕ = plus floor (digits (suc L) j (u / suc L)) in
-    let t : List ℕ = drop (suc j) ys in
-    let n : length h ≡ j = length-plus floor (digits (suc L) j (u / suc L)) ∙ length_digits (suc L) j (u / suc L) in
-    let q : ys ≡ h ++ ((floor + u % suc L) ∷ t) = e ∙ digits-peel floor L j u t l in (
-      ap (λ (r : List ℕ). get_or r j 0) q ∙ get_or_at h (floor + u % suc L) t 0 j n,
-      rest_lt L j u l,
-      q ∙ ap (λ (r : List ℕ). h ++ r) (sym (ap (drop j) q ∙ drop_at h ((floor + u % suc L) ∷ t) j n)),
-    )
+  -- and in the end none
+  pub cells-last : (e : Entry) (b : List ℕ) → cells_at floor L 0 e ++ b ≡ b
+  unfolding digits
+  cells-last (index u) b = refl
+  cells-last closed b = refl
 
--- what a loop from the last digit reads: the last of the i digits that are left
-pub digits-read : (floor L i u : ℕ) (ys : List ℕ) → 0 < i → u < suc L ^ i → ys ≡ plus floor (digits (suc L) i u) ++ drop i ys
-    → (get_or ys (i - 1) 0 ≡ floor + u % suc L) × (u / suc L < suc L ^ (i - 1)) × (ys ≡ plus floor (digits (suc L) (i - 1) (u / suc L)) ++ drop (i - 1) ys)
-digits-read floor L i u ys p l e =
-    let s : i ≡ suc (i - 1) = omega arith in
-    digits-one floor L (i - 1) u ys (subst (λ (x : ℕ). u < suc L ^ x) s l) (subst (λ (x : ℕ). ys ≡ plus floor (digits (suc L) x u) ++ drop x ys) s e)
+  -- cells whose front is the j + 1 digits that are left: the last of those, and without it the others are still the front
+  pub record LastRead (ys : List ℕ) (i : ℕ) (e : Entry) : Type 0 where
+    pub level : get_or ys i 0 ≡ floor + last_digit L e
+    pub holds : Holds L i (before_last L e)
+    pub front : ys ≡ cells_at floor L i (before_last L e) ++ drop i ys
 
--- at first the digits are all the cells
-pub digits-front : (floor q w u n : ℕ) → n ≡ w → plus floor (digits q w u) ≡ plus floor (digits q n u) ++ drop n (plus floor (digits q w u))
-digits-front floor q w u n e =
-    let ys : List ℕ = plus floor (digits q w u) in
-    let l : length ys ≡ n = length-plus floor (digits q w u) ∙ length_digits q w u ∙ sym e in
-    sym (ap (λ (r : List ℕ). plus floor (digits q n u) ++ r) (ap (λ (x : ℕ). drop x ys) (sym l) ∙ drop-length ys) ∙ append-nil (plus floor (digits q n u)) ∙ ap (λ (x : ℕ). plus floor (digits q x u)) e)
+  read-one : (j : ℕ) (e : Entry) (ys : List ℕ) → Holds L (suc j) e → ys ≡ cells_at floor L (suc j) e ++ drop (suc j) ys → LastRead ys j e
+  read-one j e ys l q =
+      let h : List ℕ = cells_at floor L j (before_last L e) in
+      let t : List ℕ = drop (suc j) ys in
+      let n : length h ≡ j = length-cells floor L j (before_last L e) in
+      let r : ys ≡ h ++ ((floor + last_digit L e) ∷ t) = q ∙ cells-peel j e t l in
+      record {
+        level = ap (λ (x : List ℕ). get_or x j 0) r ∙ get_or_at h (floor + last_digit L e) t 0 j n;
+        holds = holds-before L j e l;
+        front = r ∙ ap (λ (x : List ℕ). h ++ x) (sym (ap (drop j) r ∙ drop_at h ((floor + last_digit L e) ∷ t) j n));
+      }
+
+  -- what a loop from the last digit reads: the last of the i digits that are left
+  pub cells-read : (i : ℕ) (e : Entry) (ys : List ℕ) → 0 < i → Holds L i e → ys ≡ cells_at floor L i e ++ drop i ys → LastRead ys (i - 1) e
+  cells-read i e ys p l q =
+      let s : i ≡ suc (i - 1) = omega arith in
+      read-one (i - 1) e ys (subst (λ (x : ℕ). Holds L x e) s l) (subst (λ (x : ℕ). ys ≡ cells_at floor L x e ++ drop x ys) s q)
+
+  -- at first the digits are all the cells
+  pub cells-front : (w : ℕ) (e : Entry) → cells_at floor L w e ≡ cells_at floor L w e ++ drop w (cells_at floor L w e)
+  cells-front w e =
+      subst (λ (n : ℕ). cells_at floor L w e ≡ cells_at floor L w e ++ drop n (cells_at floor L w e)) (length-cells floor L w e)
+      (sym (ap (λ (r : List ℕ). cells_at floor L w e ++ r) (drop-length (cells_at floor L w e)) ∙ append-nil (cells_at floor L w e)))
 
 -- ---- the look for the next index block that isn't full
 
@@ -222,10 +303,3 @@ said-nothing step w b = ap (entry_of step w) (less-nothing b)
 -- and its cells are its digits
 pub cells-nothing : (step w : ℕ) (e : Entry) → cells_at 0 step w e ≡ entry_cells step w e
 cells-nothing step w e = plus-nothing (entry_cells step w e)
-
--- ---- writing and reading
-
--- as many cells are written as there are
-pub length-cells : (floor step w : ℕ) (e : Entry) → length (cells_at floor step w e) ≡ w
-length-cells floor step w (index u) = length-plus floor (digits (suc step) w u) ∙ length_digits (suc step) w u
-length-cells floor step w closed = length-plus floor (replicate w step) ∙ length-replicate w step

@@ -1,18 +1,14 @@
 -- What index blocks say and how they are written, above a floor: each digit is stored as the floor and at most `step` levels more. Assumes nothing.
-use Rattle.std.specs.Prelude.{List, ◌≡◌, ℕ, suc, ◌+◌, ◌-◌, ◌*◌, ◌/◌, ◌%◌, ◌^◌, ◌≤◌, ◌<◌, length}
+use Rattle.std.specs.Prelude.{List, Option, Some, None, ◌≡◌, ℕ, suc, ◌+◌, ◌-◌, ◌*◌, ◌/◌, ◌%◌, ◌^◌, ◌≤◌, ◌<◌, length}
 use Rattle.std.proofs.Math.Decide.{dec_lt}
 use Rattle.laws.specs.Regions.{Steady, less, over, plus}
 use Rattle.rules.specs.Batches.{entry_cells, entry_of}
 use Rattle.rules.specs.Cells.{Low, block}
-use Rattle.rules.specs.Search.{Found, at, first, nowhere}
+use Rattle.rules.specs.Search.{Found, first}
 use Rattle.rules.specs.Stage.{Entry, index, closed}
 use Rattle.index.specs.declared.Index.{Index}
 use Rattle.index.specs.declared.Index.TheVariants.{Number, Full}
-use Rattle.index.specs.declared.Live.{Live}
-use Rattle.index.specs.declared.Live.TheVariants.{At, Nowhere}
 use Rattle.index.specs.declared.Region.{Region}
-use Rattle.index.specs.declared.Stage.{Stage}
-use Rattle.index.specs.declared.Stage.TheVariants.{Left, Zero}
 
 -- ---- one index block
 
@@ -33,6 +29,16 @@ cells_at floor step w e = plus floor (entry_cells step w e)
 abbrev pub Holds : ℕ → ℕ → Entry → Type 0
 Holds step w closed = Unit {0}
 Holds step w (index u) = u < suc step ^ w
+
+-- the last digit of what an index block says; each digit of a full one is the greatest
+abbrev pub last_digit : ℕ → Entry → ℕ
+last_digit step (index u) = u % suc step
+last_digit step closed = step
+
+-- and what the digits before it say
+abbrev pub before_last : ℕ → Entry → Entry
+before_last step (index u) = index (u / suc step)
+before_last step closed = closed
 
 -- ---- the next index block that isn't full
 
@@ -55,16 +61,11 @@ pub record BatchFits (region : Region) (q : ℕ) (batch : List ℕ) : Type 0 whe
   pub steady : Steady region.step region.floor batch
 
 -- what it answers: the first from a number on, with its own number; or none, where all from there on are full
-pub data NextIndex (region : Region) (batch : List ℕ) (q from : ℕ) : Live → Type 0 where
-  next-at : (x u : ℕ) → from ≤ x → x < q → ClosedFrom region batch from x → entry_at region batch x ≡ index u → NextIndex region batch q from (At x u)
-  next-nowhere : ClosedFrom region batch from q → NextIndex region batch q from Nowhere
+pub data NextIndex (region : Region) (batch : List ℕ) (q from : ℕ) : Option (ℕ × ℕ) → Type 0 where
+  next-at : (x u : ℕ) → from ≤ x → x < q → ClosedFrom region batch from x → entry_at region batch x ≡ index u → NextIndex region batch q from (Some (x, u))
+  next-nowhere : ClosedFrom region batch from q → NextIndex region batch q from None
 
 -- ---- the stage
-
--- the stage that was found, told by how many stages are left
-abbrev pub as_found : Stage → Found
-as_found (Left d) = at d
-as_found Zero = nowhere
 
 -- place p has region p / per and floor p % per * step; a cell of the stage with d left, at place stages - 1 - d, stands above its floor
 abbrev pub Above : ℕ → ℕ → ℕ → ℕ → List ℕ → ℕ → Type 0

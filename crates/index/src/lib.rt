@@ -1,13 +1,13 @@
 // The index store: index blocks whose digits stand above a floor, each at most `step` levels; and the stage that a sheet's index cells are in. Assumes nothing.
 #![tactic(auto)]
 
-ghost use Rattle.std.specs.Prelude.{◌≡◌, suc, ◌+◌, ◌^◌, ◌≤◌, ◌<◌, length, replicate};
-ghost use Rattle.laws.specs.Differ.{apart};
+ghost use Rattle.std.specs.Prelude.{◌≡◌, suc, ◌+◌, ◌^◌, ◌≤◌, ◌<◌, length};
 ghost use Rattle.plan.specs.Meaning.{Needs};
-ghost use Rattle.laws.specs.Regions.{plus, Steady};
-ghost use Rattle.rules.specs.Batches.{digits};
+ghost use Rattle.laws.specs.Regions.{Steady};
 ghost use Rattle.rules.specs.Cells.{Rises};
-ghost use Rattle.index.specs.Meaning.{as_entry, as_found, BatchFits, Holds, NextIndex, RegionsFit, cells_at, said, stage_left};
+ghost use Rattle.rules.specs.Search.{as_found};
+ghost use Rattle.index.specs.Props.{batch_fits-prop, regions_fit-prop};
+ghost use Rattle.index.specs.Meaning.{BatchFits, Holds, NextIndex, RegionsFit, as_entry, before_last, cells_at, last_digit, said, stage_left, whole_region};
 
 use plan::Need;
 
@@ -18,107 +18,18 @@ pub enum Index {
     Full,
 }
 
-// What the cells of an index block say, most significant digit first; a full one has the greatest number of its width.
-pub fn index_of(b: &[u8], floor: u8, step: u8) -> Index
-    requires { (suc step ^ length b.now ≤ 16777216) × Steady step floor b.now }
-    ensures { as_entry result ≡ said floor step (length b.now) b.now }
-{
-    let base = step as usize + 1;
-    let mut number: usize = 0;
-    let mut power: usize = 1;
-    let mut i: usize = 0;
-    while i < b.len() {
-        number = number * base + (b[i] - floor) as usize;
-        power *= base;
-        i += 1;
-    }
-    if number + 1 == power {
-        return Index::Full;
-    }
-    Index::Number(number)
-}
-
-// An index block set to the digits of u above the floor, the last digit first.
-fn set_number(b: &mut [u8], floor: u8, step: u8, u: usize)
-    requires { (floor + step ≤ 255) × (u < suc step ^ length b.old) }
-    ensures { b.new ≡ plus floor (digits (suc step) (length b.old) u) }
-{
-    let base = step as usize + 1;
-    let mut rest = u;
-    let mut i = b.len();
-    while 0 < i {
-        i -= 1;
-        b[i] = floor + (rest % base) as u8;
-        rest /= base;
-    }
-}
-
-// An index block set to what it is to say.
-pub fn set_entry(b: &mut [u8], floor: u8, step: u8, entry: Index)
-    requires { (floor + step ≤ 255) × Holds step (length b.old) (as_entry entry) }
-    ensures { b.new ≡ cells_at floor step (length b.old) (as_entry entry) }
-{
-    match entry {
-        Index::Number(u) => set_number(b, floor, step, u),
-        Index::Full => cells::fill(b, floor + step),
-    }
-}
-
-// 1 where two levels differ, else 0.
-fn apart(x: u8, y: u8) -> usize
-    ensures { (result ≡ apart x y) × (result ≤ 1) }
-{
-    if x == y { 0 } else { 1 }
-}
-
-// What it needs to raise every cell to one level.
-fn need_full(b: &[u8], level: u8) -> Need
-    requires { (length b.now ≤ 65536) × Rises b.now (replicate (length b.now) level) }
-    ensures { Needs b.now (replicate (length b.now) level) result }
-{
-    let mut cells: usize = 0;
-    let mut levels: usize = 0;
-    let mut i = b.len();
-    while 0 < i {
-        i -= 1;
-        let x = b[i];
-        cells += apart(x, level);
-        levels += (level - x) as usize;
-    }
-    Need { cells, levels }
-}
-
-// What it needs to raise an index block to the digits of u above the floor, the last digit first.
-fn need_number(b: &[u8], floor: u8, step: u8, u: usize) -> Need
-    requires holds { (floor + step ≤ 255) × (u < suc step ^ length b.now) × (length b.now ≤ 65536) }
-    requires rises { Rises b.now (plus floor (digits (suc step) (length b.now) u)) }
-    ensures { Needs b.now (plus floor (digits (suc step) (length b.now) u)) result }
-{
-    let base = step as usize + 1;
-    let mut cells: usize = 0;
-    let mut levels: usize = 0;
-    let mut rest = u;
-    let mut i = b.len();
-    while 0 < i {
-        i -= 1;
-        let x = b[i];
-        let level = floor + (rest % base) as u8;
-        cells += apart(x, level);
-        levels += (level - x) as usize;
-        rest /= base;
-    }
-    Need { cells, levels }
-}
-
-// What it needs to write over an index block what it is to say, before anything is written.
-pub fn need_entry(b: &[u8], floor: u8, step: u8, entry: Index) -> Need
-    requires holds { (floor + step ≤ 255) × Holds step (length b.now) (as_entry entry) × (length b.now ≤ 65536) }
-    requires rises { Rises b.now (cells_at floor step (length b.now) (as_entry entry)) }
-    ensures { Needs b.now (cells_at floor step (length b.now) (as_entry entry)) result }
-{
-    match entry {
-        Index::Number(u) => need_number(b, floor, step, u),
-        Index::Full => need_full(b, floor + step),
+impl Index {
+    // The last digit, and what the digits before it say; each digit of a full block is the greatest.
+    fn last_digit(self, step: u8) -> (u8, Index)
+        ensures { (result.0 ≡ last_digit step (as_entry self)) × (as_entry result.1 ≡ before_last step (as_entry self)) }
+    {
+        match self {
+            Index::Number(u) => {
+                let base = step as usize + 1;
+                ((u % base) as u8, Index::Number(u / base))
+            }
+            Index::Full => (step, Index::Full),
+        }
     }
 }
 
@@ -131,82 +42,168 @@ pub struct Region {
     pub step: u8,
 }
 
-// The next index block that isn't full, and its number.
-#[derive(Clone, Copy)]
-pub enum Live {
-    At(usize, usize),
-    Nowhere,
-}
-
-// The first of q index blocks, from a number on, that isn't full; `batch` is the region's cells.
-pub fn next_index(batch: &[u8], region: Region, q: usize, from: usize) -> Live
-    requires { BatchFits region q batch.now }
-    ensures { NextIndex region batch.now q from result }
-{
-    let mut x = from;
-    while x < q {
-        let a = x * region.width;
-        let e = a + region.width;
-        if let Index::Number(u) = index_of(&batch[a..e], region.floor, region.step) {
-            return Live::At(x, u);
+impl Region {
+    // The index blocks of a stage that has every level up to the top one to itself.
+    pub fn whole(cell: usize, width: usize, top: u8) -> Self
+        ensures { result ≡ whole_region cell width top }
+    {
+        Region {
+            cell,
+            width,
+            floor: 0,
+            step: top,
         }
-        x += 1;
     }
-    Live::Nowhere
-}
 
-// The stage that a sheet is in: how many stages are left there, or stage 0.
-#[derive(Clone, Copy)]
-pub enum Stage {
-    Left(usize),
-    Zero,
-}
+    // What the cells of an index block say, most significant digit first; a full one has the greatest number of its width.
+    pub fn index_of(self, b: &[u8]) -> Index
+        requires { (suc self.step ^ length b.now ≤ 16777216) × Steady self.step self.floor b.now }
+        ensures { as_entry result ≡ said self.floor self.step (length b.now) b.now }
+    {
+        let base = self.step as usize + 1;
+        let mut number = 0;
+        let mut power = 1;
+        for &x in b {
+            number = number * base + usize::from(x - self.floor);
+            power *= base;
+        }
+        if number + 1 == power {
+            return Index::Full;
+        }
+        Index::Number(number)
+    }
 
-// The stage, region by region from the last one down: the first that has a cell above 0 tells the stage by its greatest level.
-fn last_stage(
-    index: &[u8],
-    cells: usize,
-    regions: usize,
-    stages: usize,
-    per: usize,
-    step: u8,
-) -> Stage
-    requires { RegionsFit cells regions stages per step index.now }
-    ensures { as_found result ≡ stage_left cells stages per step index.now }
-{
-    let mut g = regions;
-    while 0 < g {
-        g -= 1;
-        let a = g * cells;
-        let e = a + cells;
-        let h = cells::greatest(&index[a..e]);
-        if 0 < h {
-            let place = g * per + ((h - 1) / step) as usize;
-            if stages <= place {
-                return Stage::Left(0);
+    // An index block set to what it is to say, the last digit first.
+    pub fn set_entry(self, b: &mut [u8], entry: Index)
+        requires { (self.floor + self.step ≤ 255) × Holds self.step (length b.old) (as_entry entry) }
+        ensures { b.new ≡ cells_at self.floor self.step (length b.old) (as_entry entry) }
+    {
+        let mut rest = entry;
+        for i in (0..b.len()).rev() {
+            let (digit, before) = rest.last_digit(self.step);
+            b[i] = self.floor + digit;
+            rest = before;
+        }
+    }
+
+    // What it needs to write over an index block what it is to say, before anything is written, the last digit first.
+    pub fn need_entry(self, b: &[u8], entry: Index) -> Need
+        requires holds { (self.floor + self.step ≤ 255) × Holds self.step (length b.now) (as_entry entry) × (length b.now ≤ 65536) }
+        requires rises { Rises b.now (cells_at self.floor self.step (length b.now) (as_entry entry)) }
+        ensures { Needs b.now (cells_at self.floor self.step (length b.now) (as_entry entry)) result }
+    {
+        let mut cells: usize = 0;
+        let mut levels: usize = 0;
+        let mut rest = entry;
+        for &x in b.iter().rev() {
+            let (digit, before) = rest.last_digit(self.step);
+            let level = self.floor + digit;
+            cells += usize::from(x != level);
+            levels += usize::from(level - x);
+            rest = before;
+        }
+        Need { cells, levels }
+    }
+
+    // The first of q index blocks, from a number on, that isn't full, and its number; `batch` is the region's cells.
+    pub fn next_index(self, batch: &[u8], q: usize, from: usize) -> Option<(usize, usize)>
+        requires { BatchFits self q batch.now }
+        ensures { NextIndex self batch.now q from result }
+    {
+        for x in from..q {
+            let a = x * self.width;
+            let e = a + self.width;
+            if let Index::Number(u) = self.index_of(&batch[a..e]) {
+                return Some((x, u));
             }
-            return Stage::Left(stages - 1 - place);
+        }
+        None
+    }
+
+    // The first `count` of its index blocks, of which those that aren't full are given; `batch` is the region's cells.
+    pub fn open(self, batch: &[u8], count: usize) -> OpenIndexes<'_>
+        requires { BatchFits self count batch.now }
+        ensures { (result.region ≡ self) × (result.batch.now ≡ batch.now) × (result.count ≡ count) × (result.at ≡ 0) }
+    {
+        OpenIndexes {
+            region: self,
+            batch,
+            count,
+            at: 0,
         }
     }
-    Stage::Zero
 }
 
-// The stage, from the regions: `index` is the cells from the first region on. Each of the `regions` regions of `cells` cells serves `per` of the `stages` stages, with `step` levels each.
-// Nearly all changes are made at stage 0, so one look at all regions comes first.
-pub fn stage_of(
-    index: &[u8],
-    cells: usize,
-    regions: usize,
-    stages: usize,
-    per: usize,
-    step: u8,
-) -> Stage
-    requires { RegionsFit cells regions stages per step index.now }
-    ensures { as_found result ≡ stage_left cells stages per step index.now }
-{
-    let e = regions * cells;
-    if cells::all_zero(&index[..e]) {
-        return Stage::Zero;
+// The regions of all stages: the cells from the first region on; each of the `regions` regions of `cells` cells serves `per` of the `stages` stages, with `step` levels each.
+#[derive(Clone, Copy)]
+pub struct Regions<'a> {
+    pub index: &'a [u8],
+    pub cells: usize,
+    pub regions: usize,
+    pub stages: usize,
+    pub per: usize,
+    pub step: u8,
+    pub ghost fit: { RegionsFit cells regions stages per step index.now } by { regions_fit-prop cells regions stages per step index.now },
+}
+
+impl Regions<'_> {
+    // The stage, told by how many stages are left there, or none at stage 0, region by region from the last one down:
+    // the first that has a cell above 0 tells the stage by its greatest level.
+    fn last_stage(self) -> Option<usize>
+        ensures { as_found result ≡ stage_left self.entry.cells self.entry.stages self.entry.per self.entry.step self.entry.index.now }
+    {
+        for g in (0..self.regions).rev() {
+            let a = g * self.cells;
+            let e = a + self.cells;
+            let h = cells::greatest(&self.index[a..e]);
+            if 0 < h {
+                let place = g * self.per + usize::from((h - 1) / self.step);
+                if self.stages <= place {
+                    return Some(0);
+                }
+                return Some(self.stages - 1 - place);
+            }
+        }
+        None
     }
-    last_stage(index, cells, regions, stages, per, step)
+
+    // The stage, told by how many stages are left there, or none at stage 0.
+    // Nearly all changes are made at stage 0, so one look at all regions comes first.
+    pub fn stage_of(self) -> Option<usize>
+        ensures { as_found result ≡ stage_left self.entry.cells self.entry.stages self.entry.per self.entry.step self.entry.index.now }
+    {
+        let e = self.regions * self.cells;
+        if cells::all_zero(&self.index[..e]) {
+            return None;
+        }
+        self.last_stage()
+    }
+}
+
+// The index blocks of a region from number `at` on that aren't full, one after the other, each with its own number and the one that it says.
+#[derive(Clone, Copy)]
+pub struct OpenIndexes<'a> {
+    pub region: Region,
+    pub batch: &'a [u8],
+    pub count: usize,
+    pub at: usize,
+    pub ghost fit: { BatchFits region count batch.now } by { batch_fits-prop region count batch.now },
+}
+
+impl Iterator for OpenIndexes<'_> {
+    ghost use Rattle.std.specs.Prelude.{◌-◌};
+    ghost use Rattle.std.specs.Iterator.{at_most};
+    ghost use Rattle.index.specs.Open.{GivesOpen};
+
+    type Item = (usize, usize);
+
+    ghost next_gives = { GivesOpen };
+
+    ghost remaining = { λ s. at_most (s.count - s.at) };
+
+    fn next(&mut self) -> Option<(usize, usize)> {
+        let (slot, number) = self.region.next_index(self.batch, self.count, self.at)?;
+        self.at = slot + 1;
+        Some((slot, number))
+    }
 }

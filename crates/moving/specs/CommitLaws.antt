@@ -1,11 +1,11 @@
 -- Laws of the whole move by a route: the marked blocks and the batch, put back, are the sheet that the rules leave; and what it needs. Assumes nothing.
 use mathlib.Core.List.{List, ◌++◌, append_assoc, append-nil}
 use Rattle.std.specs.Prelude.{◌≡◌, take, replicate}
-use Rattle.std.proofs.Common.{◌∙◌, arith, drop_of_length-le, length-append, take-append-drop, drop-drop, take-take}
+use Rattle.std.proofs.Common.{◌∙◌, arith, drop_of_length-le, take-append-drop, drop-drop, take-take}
 use Rattle.std.proofs.Math.Path.{ap, ap₂, refl, subst, sym}
 use Prim.Native.Nat.{ℕ, ◌+◌, ◌-◌, ◌*◌, ◌≤◌}
 use borrow.Rule.Slice.PartMut.{put_mid}
-use Rattle.std.proofs.Math.ListN.{length, get_or, drop, length-drop}
+use Rattle.std.proofs.Math.ListN.{length, drop, length-drop}
 use Rattle.std.proofs.Math.Seq.{length-take-le}
 use Rattle.laws.specs.Chop.{chop-sized, length-chop, length-join, length-record}
 use Rattle.plan.specs.Meaning.{Needs}
@@ -15,17 +15,18 @@ use Rattle.laws.specs.Parts.{chop-take}
 use Rattle.laws.specs.Record.{record-sized}
 use Rattle.laws.specs.Splice.{part, spliced, spliced-put, spliced-two}
 use Rattle.laws.specs.Stage.{Sized}
-use Rattle.rules.specs.Cells.{Low, chop, join, tabulate}
+use Rattle.rules.specs.Cells.{Low, chop, join}
 use Rattle.rules.specs.Stage.{Entry, closed, live_weights, record_all, recorded_entries}
 use Rattle.plan.specs.declared.Need.{Need}
-use Rattle.moving.specs.Meaning.{RowFits, MoveFits, Placed, RegionFits, marked_cells, moved_above, moved_in, risen, row_cells, slot_entries}
+use Rattle.cells.specs.declared.blocks.Blocks.{Blocks}
+use Rattle.moving.specs.Meaning.{RowFits, MoveFits, Placed, RegionFits, RouteOf, Routed, marked_cells, marks_in, moved_above, moved_in, risen, row_cells, slot_entries}
 use Rattle.moving.specs.NeedLaws.{needs-append, needs-same, over-low, route-needs}
 use Rattle.moving.specs.RaiseLaws.{join_first, marked-is, route-placed}
 use Rattle.moving.specs.RowLaws.{length_front}
 use Rattle.moving.specs.SlotLaws.{slots-are}
-use Rattle.moving.specs.declared.ParityBlocks.{ParityBlocks}
+use Rattle.moving.specs.declared.route.ParityBlocks.{ParityBlocks}
 use Rattle.index.specs.declared.Region.{Region}
-use Rattle.moving.specs.declared.Route.{Route}
+use Rattle.moving.specs.declared.route.Route.{Route}
 
 -- ---- the region
 
@@ -35,7 +36,7 @@ module _ {region : Region} {k : ℕ} {f : List ℕ} (g : RegionFits region k f) 
   region-batch xs e =
       let n : length (part region.cell (2 * (k - 1) * region.width) xs) ≡ 2 * (k - 1) * region.width =
       length-take-le (2 * (k - 1) * region.width) (drop region.cell xs) (omega (arith, length-drop region.cell xs, g.inside)) in
-      record { some = g.some; few = g.few; exact = n; short = omega (arith, n, g.inside, g.short); wide = g.wide; below = g.below }
+      record { some = g.some; exact = n; short = omega (arith, n, g.inside, g.short); wide = g.wide; below = g.below }
 
   -- and no cell of it stands above the floor
   pub region-low : Low region.floor (part region.cell (2 * (k - 1) * region.width) f)
@@ -57,7 +58,17 @@ split c a n f h l =
 
 -- ---- the move
 
-module _ (parity : ParityBlocks) (region : Region) (k L : ℕ) (vs : List ℕ) (route : Route) (f : List ℕ) (g : RegionFits region k f) (m : MoveFits parity region k L vs route f) where
+module _ (region : Region) (vs : List ℕ) (route : Route) (f : List ℕ) (g : RegionFits region route.k f) (m : MoveFits region vs route f) where
+  -- the parity blocks, the bits and the top level are the route's
+  abbrev parity : ParityBlocks
+  parity = route.parity
+
+  abbrev k : ℕ
+  k = route.k
+
+  abbrev L : ℕ
+  L = route.top
+
   -- the cells of the parity blocks
   abbrev c : ℕ
   c = parity.count * parity.len
@@ -91,16 +102,16 @@ module _ (parity : ParityBlocks) (region : Region) (k L : ℕ) (vs : List ℕ) (
   many = omega (arith, m.as_many, m.enough)
 
   -- the places lie in the cells of the parity blocks
-  pub move-placed : Placed parity.len k route.places (take c f)
+  pub move-placed : Placed parity.len k route.recorders (take c f)
   move-placed =
-      rw (sym m.as_many)
+      subst (λ (x : ℕ). Placed parity.len x route.recorders (take c f)) m.as_many
       (route-placed parity.len parity.count L (take c f) vs route (omega (arith, parity-cells)) (low-take L c f m.low) (rw own many) (rw own m.routed))
 
   -- the marks record the values
-  marked : marked_cells parity.len L k route.places route.marks (take c f) ≡ join (record_all (parity.len * L) L vs bs)
+  marked : marked_cells parity.len L k route.recorders (take c f) ≡ join (record_all (parity.len * L) L vs bs)
   marked =
-      rw (sym m.as_many)
-      (marked-is parity.len parity.count L (take c f) vs route (omega (arith, parity-cells)) (low-take L c f m.low) (rw own many) (rw own m.routed))
+      ap (λ (x : ℕ). marked_cells parity.len L x route.recorders (take c f)) (sym m.as_many)
+      ∙ marked-is parity.len parity.count L (take c f) vs route (omega (arith, parity-cells)) (low-take L c f m.low) (rw own many) (rw own m.routed)
       ∙ ap₂ (λ (x : List (List ℕ)) (y : List ℕ). join (record_all (parity.len * L) L vs x) ++ y) own (drop_of_length-le (take c f) {i = c} (omega (arith, parity-cells)))
       ∙ append-nil (join (record_all (parity.len * L) L vs bs))
 
@@ -109,14 +120,14 @@ module _ (parity : ParityBlocks) (region : Region) (k L : ℕ) (vs : List ℕ) (
   es = recorded_entries (parity.len * L) L 1 vs bs ++ replicate (2 * (k - 1) - length (live_weights (parity.len * L) bs)) closed
 
   -- the slots say that
-  row : row_cells region.floor region.step region.width (slot_entries k route.live route.marks (2 * (k - 1))) ≡ row_cells region.floor region.step region.width es
+  row : row_cells region.floor region.step region.width (slot_entries k route.live route.recorders (2 * (k - 1))) ≡ row_cells region.floor region.step region.width es
   row =
       ap (row_cells region.floor region.step region.width)
-      (ap (λ (x : ℕ). slot_entries x route.live route.marks (2 * (k - 1))) (sym m.as_many) ∙ slots-are parity.len L vs bs route sized many m.routed (2 * (k - 1)) m.room)
+      (ap (λ (x : ℕ). slot_entries x route.live route.recorders (2 * (k - 1))) (sym m.as_many) ∙ slots-are parity.len L vs bs route sized many m.routed (2 * (k - 1)) m.room)
 
   -- in n cells
   row-long : length (row_cells region.floor region.step region.width es) ≡ n
-  row-long = ap length (sym row) ∙ length_front region.floor region.step region.width k route.live route.marks (2 * (k - 1))
+  row-long = ap length (sym row) ∙ length_front region.floor region.step region.width k route.live route.recorders (2 * (k - 1))
 
   -- as many parity cells as before
   parity-long : length (join (record_all (parity.len * L) L vs bs)) ≡ c
@@ -124,13 +135,9 @@ module _ (parity : ParityBlocks) (region : Region) (k L : ℕ) (vs : List ℕ) (
       length-join parity.len L (record_all (parity.len * L) L vs bs) (record-sized (parity.len * L) parity.len L vs bs sized)
       ∙ ap (λ (x : ℕ). x * parity.len) (length-record (parity.len * L) L vs bs ∙ length-chop parity.len parity.count f)
 
-  module _ (ys zs : List ℕ) (y : ys ≡ marked_cells parity.len L k route.places route.marks (take c f)) where
-    -- the parity cells put back leave the length
-    pub raised_long : length (ys ++ drop c f) ≡ length f
-    raised_long = omega (arith, length-append ys (drop c f), ap length (y ∙ marked), parity-long, length-drop c f, inside)
-
-    -- and with the batch put back too, it is the sheet that the rules leave
-    pub move-made : zs ≡ row_cells region.floor region.step region.width (slot_entries k route.live route.marks (2 * (k - 1))) → put_mid region.cell n (ys ++ drop c f) zs ≡ moved_in parity region k L vs f
+  module _ (ys zs : List ℕ) (y : ys ≡ marked_cells parity.len L k route.recorders (take c f)) where
+    -- with the parity cells and the batch put back, it is the sheet that the rules leave
+    pub move-made : zs ≡ row_cells region.floor region.step region.width (slot_entries k route.live route.recorders (2 * (k - 1))) → put_mid region.cell n (ys ++ drop c f) zs ≡ moved_in region route vs f
     unfolding moved_above
     move-made z =
         let ps : List ℕ = join (record_all (parity.len * L) L vs bs) in
@@ -142,16 +149,44 @@ module _ (parity : ParityBlocks) (region : Region) (k L : ℕ) (vs : List ℕ) (
         ∙ ap (λ (x : ℕ). ps ++ (drop x (take region.cell f) ++ (rs ++ drop (region.cell + n) f))) parity-long
 
   -- what the whole move needs: so much for the marks, and what the batch does
-  pub move_needs : (raised : ℕ) (batch : Need) → raised ≡ risen (tabulate k (λ t. get_or route.marks t 0))
-      → Needs (part region.cell n f) (row_cells region.floor region.step region.width (slot_entries k route.live route.marks (2 * (k - 1)))) batch
-      → Needs f (moved_in parity region k L vs f) (record { cells = raised + batch.cells; levels = raised + batch.levels })
+  pub move_needs : (raised : ℕ) (batch : Need) → k ≤ length route.recorders → raised ≡ risen (marks_in (take k route.recorders))
+      → Needs (part region.cell n f) (row_cells region.floor region.step region.width (slot_entries k route.live route.recorders (2 * (k - 1)))) batch
+      → Needs f (moved_in region route vs f) (record { cells = raised + batch.cells; levels = raised + batch.levels })
   unfolding moved_above
-  move_needs raised batch e q =
+  move_needs raised batch h e q =
       let p : Needs (take c f) (join (record_all (parity.len * L) L vs bs)) (record { cells = raised; levels = raised }) =
-      rw (sym (join_first parity.len parity.count f inside), e ∙ ap (λ (x : ℕ). risen (tabulate x (λ t. get_or route.marks t 0))) (sym m.as_many))
-      (route-needs parity.len L vs bs route sized many m.routed) in
+      rw (sym (join_first parity.len parity.count f inside), e ∙ ap (λ (x : ℕ). risen (marks_in (take x route.recorders))) (sym m.as_many))
+      (route-needs parity.len L vs bs route sized many (omega (arith, m.as_many)) m.routed) in
       let o : length (part region.cell n f) ≡ n = length-take-le n (drop region.cell f) (omega (arith, length-drop region.cell f, g.inside)) in
-      subst (λ (x : List ℕ). Needs x (moved_in parity region k L vs f) (record { cells = raised + batch.cells; levels = raised + batch.levels })) (sym (split c region.cell n f m.ordered g.inside))
+      subst (λ (x : List ℕ). Needs x (moved_in region route vs f) (record { cells = raised + batch.cells; levels = raised + batch.levels })) (sym (split c region.cell n f m.ordered g.inside))
       (needs-append _ _ (parity-cells ∙ sym parity-long) p
       (needs-append batch.cells batch.levels refl (needs-same (drop c (take region.cell f)))
       (needs-append batch.cells batch.levels (o ∙ sym row-long) (rw row at q) (needs-same (drop (region.cell + n) f)) (omega arith) (omega arith)) (omega arith) (omega arith)) refl refl)
+
+-- ---- the route that the search answers
+
+module _ (region : Region) (b : Blocks) (k : ℕ) (vs : List ℕ) (route : Route) (o : RouteOf b k vs route) where
+  -- as many blocks are live as among the blocks searched
+  live-same : live (route.parity.len * route.top) (chop route.parity.len route.parity.count b.cells.now) ≡ live (b.len * b.top) (chop b.len b.count b.cells.now)
+  live-same = ap₂ (λ (x : ParityBlocks) (t : ℕ). live (x.len * t) (chop x.len x.count b.cells.now)) o.parity o.top
+
+  -- it is one for a move, where the blocks lie before the region, and there are index blocks for those that are live
+  pub route-fits : b.count * b.len ≤ region.cell → length vs ≡ k → k ≤ live (b.len * b.top) (chop b.len b.count b.cells.now) → live (b.len * b.top) (chop b.len b.count b.cells.now) ≤ 2 * (k - 1)
+      → MoveFits region vs route b.cells.now
+  route-fits before many enough room =
+      let p : route.parity.count * route.parity.len ≡ b.count * b.len = ap (λ (x : ParityBlocks). x.count * x.len) o.parity in
+      record {
+        ordered = omega (arith, p, before);
+        low = subst (λ (t : ℕ). Low t b.cells.now) (sym o.top) b.low;
+        as_many = many ∙ sym o.bits;
+        enough = omega (arith, live-same, o.bits, enough);
+        room = omega (arith, live-same, o.bits, room);
+        routed = subst (λ (t : ℕ). Routed (route.parity.len * t) vs (chop route.parity.len route.parity.count b.cells.now) route) (sym o.top)
+            (subst (λ (x : ParityBlocks). Routed (x.len * b.top) vs (chop x.len x.count b.cells.now) route) (sym o.parity) o.routed);
+      }
+
+  -- and the move by it is told by the blocks' numbers
+  pub route-moved : (f : List ℕ) → moved_in region route vs f ≡ moved_above region.cell b.len b.count region.width region.floor region.step k b.top vs f
+  route-moved f =
+      ap (λ (x : ParityBlocks). moved_above region.cell x.len x.count region.width region.floor region.step route.k route.top vs f) o.parity
+      ∙ ap₂ (λ (x t : ℕ). moved_above region.cell b.len b.count region.width region.floor region.step x t vs f) o.bits o.top

@@ -1,27 +1,30 @@
 -- Laws of what a move needs: of lists one after the other, of the parity blocks by the marks, and of the batch. Assumes nothing.
-use Rattle.std.specs.Prelude.{List, [], ◌∷◌, ◌++◌, ◌≢◌, ◌≡◌, refl, ℕ, zero, suc, ◌+◌, ◌*◌, ◌%◌, ◌^◌, ◌≤◌, ◌<◌, length, get_or, take, drop}
-use Rattle.std.proofs.Common.{◌∙◌, ap, subst, sym, zero-le, mul-le-mul_right, add-one, arith, length-take, length-take-le, take-add}
+use Rattle.std.specs.Prelude.{Bool, if◌then◌else◌, List, [], ◌∷◌, ◌++◌, ◌≢◌, ◌≡◌, refl, ℕ, zero, suc, ◌+◌, ◌*◌, ◌%◌, ◌^◌, ◌≤◌, ◌<◌, length, get_or, take, drop}
+use Rattle.std.proofs.Common.{◌∙◌, ap, ap₂, subst, sym, zero-le, mul-le-mul_right, add-one, arith, length-take, length-take-le, take-add}
 use Rattle.std.proofs.Math.Decide.{dec_lt, ℕ_discrete}
 use Rattle.index.specs.Meaning.{Holds, cells_at}
 use Rattle.laws.specs.Differ.{differ, differ-append, differ_same}
 use Rattle.plan.specs.Meaning.{Needs}
 use Rattle.laws.specs.Index.{digits_low, length-entry}
-use Rattle.laws.specs.Lists.{low-append, low-drop, low-replicate, low-take, sum-append, sum_low, tabulate-more, tabulate-same}
+use Rattle.laws.specs.Lists.{low-append, low-drop, low-replicate, low-take, sum-append, sum_low}
 use Rattle.laws.specs.Live.{live}
 use Rattle.laws.specs.Record.{recorded-length, recorded-other, recorded-same}
 use Rattle.laws.specs.Regions.{over, plus-steady, rises-base, steady-low}
 use Rattle.laws.specs.Stage.{Sized, raise-sum}
 use Rattle.rules.specs.Batches.{entry_cells}
-use Rattle.rules.specs.Cells.{Low, Rises, join, sum, tabulate}
+use Rattle.rules.specs.Cells.{Low, Rises, join, sum}
 use Rattle.rules.specs.Search.{pick}
 use Rattle.rules.specs.SearchLaws.{pick-elim, pick_no, pick_yes}
 use Rattle.rules.specs.Stage.{Entry, closed, index, live_weights, raise, record_all, recorded}
 use Rattle.plan.specs.declared.Need.{Need}
-use Rattle.moving.specs.Meaning.{Routed, mark, risen, slot_entry}
-use Rattle.moving.specs.RaiseLaws.{mark-stays, stays-mark}
+use Rattle.moving.specs.Meaning.{Routed, mark, mark_at, marks_in, raises, risen, slot_entry}
+use Rattle.moving.specs.RaiseLaws.{mark-rises, mark-stays}
 use Rattle.moving.specs.RowLaws.{front, front-more, front-none, length_front}
 use Rattle.moving.specs.SlotLaws.{slot-holds}
-use Rattle.moving.specs.declared.Route.{Route}
+use Rattle.moving.specs.declared.route.Mark.{Mark}
+use Rattle.moving.specs.declared.route.Mark.TheVariants.{Filled, Raised, Stays}
+use Rattle.moving.specs.declared.route.Recorder.{Recorder}
+use Rattle.moving.specs.declared.route.Route.{Route}
 
 -- ---- lists one after the other
 
@@ -48,42 +51,24 @@ needs-small : {xs ys : List ℕ} {n : Need} → Needs xs ys n → Low 255 ys →
 needs-small {xs} {ys} p low h l =
     (omega (arith, p.cells, differ-few xs ys), omega (arith, p.levels, sum_low 255 ys low, mul-le-mul_right {m = length ys} {n = 65536} 255 l))
 
--- ---- marks
-
--- none at first
-pub risen-none : (f : ℕ → ℕ) → risen (tabulate 0 f) ≡ 0
-unfolding risen
-risen-none f = refl
-
--- one mark more at the end
-risen-snoc : (ms : List ℕ) (m : ℕ) → risen (ms ++ (m ∷ [])) ≡ pick (ℕ_discrete m 0) (risen ms) (suc (risen ms))
-unfolding risen
-risen-snoc [] m = refl
-risen-snoc (n ∷ ms) m =
-    elim (ℕ_discrete n 0) as (λ d. pick d (risen (ms ++ (m ∷ []))) (suc (risen (ms ++ (m ∷ [])))) ≡ pick (ℕ_discrete m 0) (pick d (risen ms) (suc (risen ms))) (suc (pick d (risen ms) (suc (risen ms))))) [
-      | yes e ↦ risen-snoc ms m
-      | no e ↦ ap suc (risen-snoc ms m) ∙ pick-elim (λ r. suc r ≡ pick (ℕ_discrete m 0) (suc (risen ms)) (suc (suc (risen ms)))) (ℕ_discrete m 0) (risen ms) (suc (risen ms))
-          (λ q. sym (pick_yes (ℕ_discrete m 0) _ _ q)) (λ q. sym (pick_no (ℕ_discrete m 0) _ _ q))
-    ]
-
-module _ (t : ℕ) (f : ℕ → ℕ) where
-  -- the first t + 1 marks
-  risen-turn : risen (tabulate (t + 1) f) ≡ pick (ℕ_discrete (f t) 0) (risen (tabulate t f)) (suc (risen (tabulate t f)))
-  risen-turn = ap (λ (n : ℕ). risen (tabulate n f)) (add-one t) ∙ ap risen (tabulate-more t f) ∙ risen-snoc (tabulate t f) (f t)
-
-  -- one more that is 0
-  pub risen-same : f t ≡ 0 → risen (tabulate (t + 1) f) ≡ risen (tabulate t f)
-  risen-same e = risen-turn ∙ pick_yes (ℕ_discrete (f t) 0) _ _ e
-
-  -- one more that is not
-  pub risen-more : f t ≢ 0 → risen (tabulate (t + 1) f) ≡ suc (risen (tabulate t f))
-  risen-more n = risen-turn ∙ pick_no (ℕ_discrete (f t) 0) _ _ n
-
 -- ---- the parity blocks
 
+-- the first n of a sequence of marks
+listed : ℕ → (ℕ → Mark) → List Mark
+listed zero f = []
+listed (suc n) f = f 0 ∷ listed n (λ t. f (suc t))
+
+-- those of recorders
+listed-marks : (n : ℕ) (rs : List Recorder) (f : ℕ → Mark) → n ≤ length rs → ((t : ℕ) → t < n → mark_at rs t ≡ f t) → marks_in (take n rs) ≡ listed n f
+unfolding listed
+listed-marks zero rs f h e = refl
+listed-marks (suc n) [] f h e = absurd (omega arith)
+listed-marks (suc n) (r ∷ rs) f h e =
+    ap₂ (λ (m : Mark) (ms : List Mark). m ∷ ms) (e 0 (omega arith)) (listed-marks n rs (λ t. f (suc t)) (omega arith) (λ t l. e (suc t) (omega arith)))
+
 -- the marks of the live blocks of these weights, that record these values
-abbrev marks_of : ℕ → List ℕ → List ℕ → List ℕ
-marks_of W ws vs = tabulate (length vs) (λ t. mark W (get_or ws t 0) (get_or vs t 0))
+abbrev marks_of : ℕ → List ℕ → List ℕ → List Mark
+marks_of W ws vs = listed (length vs) (λ t. mark W (get_or ws t 0) (get_or vs t 0))
 
 -- a block that isn't full and is raised: one cell differs
 differ-raise : (L : ℕ) (b : List ℕ) → Low L b → sum b ≢ length b * L → differ b (raise L b) ≡ 1
@@ -93,11 +78,11 @@ differ-raise L (x ∷ b) h d =
     (λ l. pick_no (ℕ_discrete x (suc x)) (differ b b) (suc (differ b b)) (λ e. omega arith) ∙ ap suc (differ_same b))
     (λ l. pick_yes (ℕ_discrete x x) (differ b (raise L b)) (suc (differ b (raise L b))) refl ∙ differ-raise L b h.1 (λ e. d (omega (arith, h.0))))
 
--- the number of a mark: 0 for 0, else 1
-abbrev one : ℕ → ℕ
-one m = pick (ℕ_discrete m 0) 0 1
+-- the number of a mark: 0 where its block stays, else 1
+abbrev one : Mark → ℕ
+one m = if raises m then 1 else 0
 
--- a live block that records a value needs one cell and one level, unless its mark is 0
+-- a live block that records a value needs one cell and one level, unless it stays
 recorded-needs : (W w L v : ℕ) (b : List ℕ) → W ≡ w * L → length b ≡ w → Low L b → sum b ≢ W → Needs b (recorded L v b) (record { cells = one (mark W (sum b) v); levels = one (mark W (sum b) v) })
 recorded-needs W w L v b e long low n = go (ℕ_discrete (sum b % 2) v)
   where
@@ -106,21 +91,23 @@ recorded-needs W w L v b e long low n = go (ℕ_discrete (sum b % 2) v)
 
     go : Dec (sum b % 2 ≡ v) → Needs b (recorded L v b) (record { cells = one (mark W (sum b) v); levels = one (mark W (sum b) v) })
     go (yes q) =
-        let z : one (mark W (sum b) v) ≡ 0 = pick_yes (ℕ_discrete (mark W (sum b) v) 0) _ _ (stays-mark W (sum b) v q) in
+        let z : one (mark W (sum b) v) ≡ 0 = ap (λ (r : Bool). if r then 1 else 0) (mark-stays W (sum b) v q) in
         rw (z, recorded-same L v b q) (needs-same b)
     go (no q) =
-        let z : one (mark W (sum b) v) ≡ 1 = pick_no (ℕ_discrete (mark W (sum b) v) 0) _ _ (λ m. q (mark-stays W (sum b) v m)) in
+        let z : one (mark W (sum b) v) ≡ 1 = ap (λ (r : Bool). if r then 1 else 0) (mark-rises W (sum b) v q) in
         rw (z, recorded-other L v b q) (record { cells = sym (differ-raise L b low o); levels = omega (arith, raise-sum L b low o) })
 
 -- one mark in front of others
-risen-cons : (m : ℕ) (ms : List ℕ) → risen (m ∷ ms) ≡ one m + risen ms
+risen-cons : (m : Mark) (ms : List Mark) → risen (m ∷ ms) ≡ one m + risen ms
 unfolding risen
-risen-cons m ms = elim (ℕ_discrete m 0) as (λ d. pick d (risen ms) (suc (risen ms)) ≡ pick d 0 1 + risen ms) [ yes e ↦ omega arith | no e ↦ omega arith ]
+risen-cons Stays ms = omega arith
+risen-cons Raised ms = omega arith
+risen-cons Filled ms = omega arith
 
--- the parity blocks need one cell and one level for each mark that isn't 0
+-- the parity blocks need one cell and one level for each that is raised
 parity-needs : (W w L : ℕ) (vs : List ℕ) (bs : List (List ℕ)) → W ≡ w * L → Sized w L bs → length vs ≤ length (live_weights W bs)
     → Needs (join bs) (join (record_all W L vs bs)) (record { cells = risen (marks_of W (live_weights W bs) vs); levels = risen (marks_of W (live_weights W bs) vs) })
-unfolding risen
+unfolding risen listed
 parity-needs W w L [] [] q h l = record { cells = refl; levels = refl }
 parity-needs W w L (v ∷ vs) [] q h l = absurd (omega arith)
 parity-needs W w L [] (b ∷ bs) q h l = needs-same (join (b ∷ bs))
@@ -138,11 +125,11 @@ parity-needs W w L (v ∷ vs) (b ∷ bs) q h l = go (ℕ_discrete (sum b) W) l (
         needs-append _ _ (sym (recorded-length L v b)) (recorded-needs W w L v b q h.0 h.1 n) (g (omega arith)) c c
 
 -- by the marks of a route
-pub route-needs : (w L : ℕ) (vs : List ℕ) (bs : List (List ℕ)) (route : Route) → Sized w L bs → length vs ≤ live (w * L) bs → Routed (w * L) vs bs route
-    → Needs (join bs) (join (record_all (w * L) L vs bs)) (record { cells = risen (tabulate (length vs) (λ t. get_or route.marks t 0)); levels = risen (tabulate (length vs) (λ t. get_or route.marks t 0)) })
+pub route-needs : (w L : ℕ) (vs : List ℕ) (bs : List (List ℕ)) (route : Route) → Sized w L bs → length vs ≤ live (w * L) bs → length vs ≤ length route.recorders → Routed (w * L) vs bs route
+    → Needs (join bs) (join (record_all (w * L) L vs bs)) (record { cells = risen (marks_in (take (length vs) route.recorders)); levels = risen (marks_in (take (length vs) route.recorders)) })
 unfolding live
-route-needs w L vs bs route h l r =
-    rw (tabulate-same (length vs) (λ t. get_or route.marks t 0) (λ t. mark (w * L) (get_or (live_weights (w * L) bs) t 0) (get_or vs t 0)) r.marks)
+route-needs w L vs bs route h l n r =
+    rw (listed-marks (length vs) route.recorders (λ t. mark (w * L) (get_or (live_weights (w * L) bs) t 0) (get_or vs t 0)) n r.marks)
     (parity-needs (w * L) w L vs bs refl h l)
 
 -- ---- the batch
@@ -170,33 +157,33 @@ low-over floor (x ∷ xs) h = omega (arith, h.0, low-over floor xs h.1)
 pub floor-rises : (floor step w : ℕ) (xs : List ℕ) (e : Entry) → length xs ≡ w → Low floor xs → Rises xs (cells_at floor step w e)
 floor-rises floor step w xs e q h = rises-base floor xs (entry_cells step w e) (q ∙ sym (length-entry step w e)) (low-over floor xs h)
 
-module _ (floor step w k n : ℕ) (marks : List ℕ) where
+module _ (floor step w k n : ℕ) (rs : List Recorder) where
   -- nothing is needed for no index block
-  pub batch-none : (batch : List ℕ) → Needs (take (0 * w) batch) (front floor step w k n marks 0) (record { cells = 0; levels = 0 })
+  pub batch-none : (batch : List ℕ) → Needs (take (0 * w) batch) (front floor step w k n rs 0) (record { cells = 0; levels = 0 })
   batch-none batch =
       let z : 0 * w ≡ 0 = omega arith in
-      rw (z, front-none floor step w k n marks) (needs-same [])
+      rw (z, front-none floor step w k n rs) (needs-same [])
 
   -- one index block more
   pub batch-more : (x : ℕ) (batch : List ℕ) (c l : ℕ) {m : Need} → x * w + w ≤ length batch
-      → Needs (take (x * w) batch) (front floor step w k n marks x) (record { cells = c; levels = l }) → Needs (take w (drop (x * w) batch)) (cells_at floor step w (slot_entry k n marks x)) m
-      → Needs (take ((x + 1) * w) batch) (front floor step w k n marks (x + 1)) (record { cells = c + m.cells; levels = l + m.levels })
+      → Needs (take (x * w) batch) (front floor step w k n rs x) (record { cells = c; levels = l }) → Needs (take w (drop (x * w) batch)) (cells_at floor step w (slot_entry k n rs x)) m
+      → Needs (take ((x + 1) * w) batch) (front floor step w k n rs (x + 1)) (record { cells = c + m.cells; levels = l + m.levels })
   batch-more x batch c l {m} h p q =
       let e : (x + 1) * w ≡ x * w + w = omega arith in
-      rw (e, take-add (x * w) w batch, front-more floor step w k n marks x)
-      (needs-append _ _ (length-take-le (x * w) batch (omega arith) ∙ sym (length_front floor step w k n marks x)) p q refl refl)
+      rw (e, take-add (x * w) w batch, front-more floor step w k n rs x)
+      (needs-append _ _ (length-take-le (x * w) batch (omega arith) ∙ sym (length_front floor step w k n rs x)) p q refl refl)
 
   module _ (wide : k < suc step ^ w) (below : floor + step ≤ 255) where
     -- the cells written are bytes
-    front_low : (x : ℕ) → Low 255 (front floor step w k n marks x)
-    front_low zero = subst (Low 255) (sym (front-none floor step w k n marks)) tt
+    front_low : (x : ℕ) → Low 255 (front floor step w k n rs x)
+    front_low zero = subst (Low 255) (sym (front-none floor step w k n rs)) tt
     front_low (suc x) =
-        subst (Low 255) (sym (front-more floor step w k n marks x) ∙ ap (front floor step w k n marks) (add-one x))
-        (low-append 255 (front floor step w k n marks x) (cells_at floor step w (slot_entry k n marks x)) (front_low x) (cells_low floor step w (slot_entry k n marks x) below (slot-holds k n step w marks x wide)))
+        subst (Low 255) (sym (front-more floor step w k n rs x) ∙ ap (front floor step w k n rs) (add-one x))
+        (low-append 255 (front floor step w k n rs x) (cells_at floor step w (slot_entry k n rs x)) (front_low x) (cells_low floor step w (slot_entry k n rs x) below (slot-holds k n step w rs x wide)))
 
     -- so what they need is small
-    pub batch-small : (x : ℕ) (batch : List ℕ) {m : Need} → x * w ≤ length batch → length batch ≤ 65536 → Needs (take (x * w) batch) (front floor step w k n marks x) m → (m.cells ≤ 65536) × (m.levels ≤ 65536 * 255)
-    batch-small x batch h l p = needs-small p (front_low x) (omega (arith, length-take (x * w) batch)) (omega (arith, length_front floor step w k n marks x))
+    pub batch-small : (x : ℕ) (batch : List ℕ) {m : Need} → x * w ≤ length batch → length batch ≤ 65536 → Needs (take (x * w) batch) (front floor step w k n rs x) m → (m.cells ≤ 65536) × (m.levels ≤ 65536 * 255)
+    batch-small x batch h l p = needs-small p (front_low x) (omega (arith, length-take (x * w) batch)) (omega (arith, length_front floor step w k n rs x))
 
 -- no cell of an index block stands above the floor
 pub block-floor : (floor a n : ℕ) (batch : List ℕ) → Low floor batch → Low floor (take n (drop a batch))

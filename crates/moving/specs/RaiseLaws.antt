@@ -1,8 +1,8 @@
 -- Laws of the marked blocks: one place more, and that by the marks of a route the blocks record its values. Assumes nothing.
 use mathlib.Core.List.{List, [], ◌++◌}
-use Rattle.std.specs.Prelude.{◌≢◌, ◌≡◌, refl, ℕ, zero, suc, ◌+◌, ◌*◌, ◌%◌, ◌≤◌, ◌<◌, length, get_or, set, take, drop}
-use Rattle.std.proofs.Common.{◌∙◌, add-one, take-append-drop, length-take-le, take_at}
-use Rattle.std.proofs.Math.Path.{ap, sym}
+use Rattle.std.specs.Prelude.{true, false, if◌then◌else◌, ◌≢◌, ◌≡◌, refl, ℕ, zero, suc, ◌+◌, ◌*◌, ◌%◌, ◌≤◌, ◌<◌, length, get_or, set, take, drop}
+use Rattle.std.proofs.Common.{◌∙◌, add-one, take-append-drop, get_or-take, length-take-le, take_at}
+use Rattle.std.proofs.Math.Path.{ap, ap₂, sym}
 use Rattle.std.proofs.Math.Decide.{ℕ_discrete}
 use native.Mathlib.Omega.{arith}
 use Rattle.std.proofs.lemmas.List.{set-get_or}
@@ -18,28 +18,44 @@ use Rattle.laws.specs.Stage.{Sized, raise-length}
 use Rattle.rules.specs.Cells.{Low, block, chop, join, store, sum}
 use Rattle.rules.specs.SearchLaws.{pick-elim, pick_no, pick_yes}
 use Rattle.rules.specs.Stage.{live_weights, raise, record_all, recorded}
-use Rattle.moving.specs.Meaning.{Placed, Routed, mark, marked_cells}
-use Rattle.moving.specs.declared.Route.{Route}
+use Rattle.moving.specs.Meaning.{Placed, Routed, blank, block_at, mark, mark_at, marked_cells, raises}
+use Rattle.moving.specs.declared.route.Mark.{Mark}
+use Rattle.moving.specs.declared.route.Mark.TheVariants.{Filled, Raised}
+use Rattle.moving.specs.declared.route.Recorder.{Recorder}
+use Rattle.moving.specs.declared.route.Route.{Route}
 
 -- ---- one place more
 
 -- no place: the cells stay
-pub marked-none : (len L : ℕ) (places marks cells : List ℕ) → cells ≡ marked_cells len L 0 places marks cells
+pub marked-none : (len L : ℕ) (rs : List Recorder) (cells : List ℕ) → cells ≡ marked_cells len L 0 rs cells
 unfolding marked_cells
-marked-none len L places marks cells = refl
+marked-none len L rs cells = refl
 
-module _ (len L t : ℕ) (places marks cells : List ℕ) {xs : List ℕ} (e : xs ≡ marked_cells len L t places marks cells) where
-  -- a block of mark 0 stays
-  pub marked-stays : get_or marks t 0 ≡ 0 → xs ≡ marked_cells len L (t + 1) places marks cells
+module _ (len L t : ℕ) (rs : List Recorder) (cells : List ℕ) {xs : List ℕ} (e : xs ≡ marked_cells len L t rs cells) where
+  -- one more: it is raised, or it stays
+  pub marked-more : (if raises (mark_at rs t) then store len xs (block_at rs t) (raise L (block len xs (block_at rs t))) else xs) ≡ marked_cells len L (t + 1) rs cells
   unfolding marked_cells
-  marked-stays z = e ∙ sym (ap (λ (n : ℕ). marked_cells len L n places marks cells) (add-one t) ∙ pick_yes (ℕ_discrete (get_or marks t 0) 0) _ _ z)
+  marked-more =
+      ap (λ (r : List ℕ). if raises (mark_at rs t) then store len r (block_at rs t) (raise L (block len r (block_at rs t))) else r) e
+      ∙ sym (ap (λ (n : ℕ). marked_cells len L n rs cells) (add-one t))
 
-  -- a block of another mark is raised
-  pub marked-raised : get_or marks t 0 ≢ 0 → store len xs (get_or places t 0) (raise L (block len xs (get_or places t 0))) ≡ marked_cells len L (t + 1) places marks cells
-  unfolding marked_cells
-  marked-raised z =
-      ap (λ (r : List ℕ). store len r (get_or places t 0) (raise L (block len r (get_or places t 0)))) e
-      ∙ sym (ap (λ (n : ℕ). marked_cells len L n places marks cells) (add-one t) ∙ pick_no (ℕ_discrete (get_or marks t 0) 0) _ _ z)
+  -- a block whose mark raises it is raised
+  pub marked-raised : raises (mark_at rs t) ≡ true → store len xs (block_at rs t) (raise L (block len xs (block_at rs t))) ≡ marked_cells len L (t + 1) rs cells
+  marked-raised z = rw z at marked-more
+
+  -- another stays
+  pub marked-stays : raises (mark_at rs t) ≡ false → xs ≡ marked_cells len L (t + 1) rs cells
+  marked-stays z = rw z at marked-more
+
+-- the first n recorders have the first n places and marks
+pub marked-take : (len L k n : ℕ) (rs : List Recorder) (cells : List ℕ) → k ≤ n → marked_cells len L k (take n rs) cells ≡ marked_cells len L k rs cells
+unfolding marked_cells
+marked-take len L zero n rs cells h = refl
+marked-take len L (suc k) n rs cells h =
+    ap₂ (λ (r : Recorder) (xs : List ℕ). if raises r.mark then store len xs r.block (raise L (block len xs r.block)) else xs) (get_or-take n rs k blank (omega arith)) (marked-take len L k n rs cells (omega arith))
+
+pub placed-take : (len k : ℕ) (rs : List Recorder) (cells : List ℕ) → Placed len k rs cells → Placed len k (take k rs) cells
+placed-take len k rs cells p t h = rw (ap (λ (r : Recorder). r.block) (get_or-take k rs t blank h)) (p t h)
 
 -- a block raised leaves the length
 pub length-raised : (len L j : ℕ) (xs : List ℕ) → j * len + len ≤ length xs → length (store len xs j (raise L (block len xs j))) ≡ length xs
@@ -47,17 +63,16 @@ length-raised len L j xs h = length-store len xs j h (raise L (block len xs j)) 
 
 -- ---- what a mark says
 
--- mark 0: the parity is the value
-pub mark-stays : (W v value : ℕ) → mark W v value ≡ 0 → v % 2 ≡ value
-unfolding mark
-mark-stays W v value =
-    pick-elim (λ r. r ≡ 0 → v % 2 ≡ value) (ℕ_discrete (v % 2) value) _ _ (λ e h. e)
-    (λ e. pick-elim (λ r. r ≡ 0 → v % 2 ≡ value) (ℕ_discrete (suc v) W) _ _ (λ q h. absurd (omega arith)) (λ q h. absurd (omega arith)))
+module _ (W v value : ℕ) where
+  -- where the parity is the value, the block stays
+  pub mark-stays : v % 2 ≡ value → raises (mark W v value) ≡ false
+  unfolding mark
+  mark-stays e = ap raises (pick_yes (ℕ_discrete (v % 2) value) _ _ e)
 
--- and conversely
-pub stays-mark : (W v value : ℕ) → v % 2 ≡ value → mark W v value ≡ 0
-unfolding mark
-stays-mark W v value e = pick_yes (ℕ_discrete (v % 2) value) _ _ e
+  -- where it is not, it is raised
+  pub mark-rises : v % 2 ≢ value → raises (mark W v value) ≡ true
+  unfolding mark
+  mark-rises n = ap raises (pick_no (ℕ_discrete (v % 2) value) _ _ n) ∙ pick-elim (λ m. raises m ≡ true) (ℕ_discrete (suc v) W) Filled Raised (λ e. refl) (λ e. refl)
 
 -- ---- blocks put together, and cells past them
 
@@ -104,7 +119,7 @@ module _ (len count L : ℕ) (cells vs : List ℕ) (route : Route) (inside : cou
   is_block t h = omega (arith, live-block-in (len * L) t bs (is_live t h), length-chop len count cells)
 
   -- so the places are those of blocks that lie in the cells
-  pub route-placed : Placed len (length vs) route.places cells
+  pub route-placed : Placed len (length vs) route.recorders cells
   route-placed t h = omega (arith, ap (λ (j : ℕ). j * len) (r.places t h), block-fits len (live_block (len * L) t bs) count (is_block t h))
 
   -- the blocks with the first t values recorded
@@ -129,7 +144,7 @@ module _ (len count L : ℕ) (cells vs : List ℕ) (route : Route) (inside : cou
 
   module _ (t : ℕ) (h : t < length vs) where
     -- the mark is that of the block's weight
-    mark-is : get_or route.marks t 0 ≡ mark (len * L) (sum (b t)) (get_or vs t 0)
+    mark-is : mark_at route.recorders t ≡ mark (len * L) (sum (b t)) (get_or vs t 0)
     mark-is = r.marks t h ∙ ap (λ (v : ℕ). mark (len * L) v (get_or vs t 0)) (live-block-sum (len * L) t bs (is_live t h))
 
     -- the next block is as it was
@@ -140,19 +155,17 @@ module _ (len count L : ℕ) (cells vs : List ℕ) (route : Route) (inside : cou
     next : cs (suc t) ≡ set (cs t) (live_block (len * L) t bs) (recorded L (get_or vs t 0) (b t))
     next = record-turn (len * L) L t vs bs h (is_live t h)
 
-    -- by mark 0 all stays
-    next-stays : get_or route.marks t 0 ≡ 0 → made t ≡ made (suc t)
-    next-stays z =
-        let v : sum (b t) % 2 ≡ get_or vs t 0 = mark-stays (len * L) (sum (b t)) (get_or vs t 0) (sym mark-is ∙ z) in
+    -- with the parity as its value all stays
+    next-stays : sum (b t) % 2 ≡ get_or vs t 0 → made t ≡ made (suc t)
+    next-stays v =
         ap (λ (l : List (List ℕ)). join l ++ drop (count * len) cells)
         (sym (next ∙ ap (set (cs t) (live_block (len * L) t bs)) (recorded-same L (get_or vs t 0) (b t) v ∙ sym ahead) ∙ set-get_or (cs t) (live_block (len * L) t bs) []))
 
-    -- by another the block is raised
-    next-rises : get_or route.marks t 0 ≢ 0
+    -- with the other the block is raised
+    next-rises : sum (b t) % 2 ≢ get_or vs t 0
         → store len (made t) (live_block (len * L) t bs) (raise L (block len (made t) (live_block (len * L) t bs))) ≡ made (suc t)
-    next-rises n =
+    next-rises v =
         let j : ℕ = live_block (len * L) t bs in
-        let v : sum (b t) % 2 ≢ get_or vs t 0 = λ e. n (mark-is ∙ stays-mark (len * L) (sum (b t)) (get_or vs t 0) e) in
         let l : j < length (cs t) = omega (arith, as_many t, is_block t h) in
         let e : block len (made t) j ≡ b t = block-front len L (cs t) (drop (count * len) cells) (are-sized t) j l ∙ ahead in
         let i : j * len + len ≤ length cells = omega (arith, block-fits len j count (is_block t h)) in
@@ -161,20 +174,25 @@ module _ (len count L : ℕ) (cells vs : List ℕ) (route : Route) (inside : cou
         ∙ store-front len L (cs t) (drop (count * len) cells) (are-sized t) j l (raise L (b t)) k
         ∙ ap (λ (x : List (List ℕ)). join x ++ drop (count * len) cells) (ap (set (cs t) j) (sym (recorded-other L (get_or vs t 0) (b t) v)) ∙ sym next)
 
+    -- so by its mark
+    next-made : (if raises (mark_at route.recorders t) then store len (made t) (block_at route.recorders t) (raise L (block len (made t) (block_at route.recorders t))) else made t) ≡ made (suc t)
+    next-made =
+        ap₂ (λ (m : Mark) (j : ℕ). if raises m then store len (made t) j (raise L (block len (made t) j)) else made t) mark-is (r.places t h)
+        ∙ go (ℕ_discrete (sum (b t) % 2) (get_or vs t 0))
+      where
+        go : Dec (sum (b t) % 2 ≡ get_or vs t 0)
+            → (if raises (mark (len * L) (sum (b t)) (get_or vs t 0)) then store len (made t) (live_block (len * L) t bs) (raise L (block len (made t) (live_block (len * L) t bs))) else made t) ≡ made (suc t)
+        go (yes v) = rw (mark-stays (len * L) (sum (b t)) (get_or vs t 0) v) (next-stays v)
+        go (no v) = rw (mark-rises (len * L) (sum (b t)) (get_or vs t 0) v) (next-rises v)
+
   -- the first t marks record the first t values
-  marked-made : (t : ℕ) → t ≤ length vs → marked_cells len L t route.places route.marks cells ≡ made t
+  marked-made : (t : ℕ) → t ≤ length vs → marked_cells len L t route.recorders cells ≡ made t
   marked-made zero h =
-      sym (marked-none len L route.places route.marks cells)
+      sym (marked-none len L route.recorders cells)
       ∙ sym (ap (λ (x : List ℕ). x ++ drop (count * len) cells) (ap join (record-none (len * L) L bs) ∙ join_first len count cells inside) ∙ take-append-drop (count * len) cells)
-  marked-made (suc t) h = go (ℕ_discrete (get_or route.marks t 0) 0) (marked-made t (omega arith))
-    where
-      go : Dec (get_or route.marks t 0 ≡ 0) → marked_cells len L t route.places route.marks cells ≡ made t → marked_cells len L (suc t) route.places route.marks cells ≡ made (suc t)
-      go (yes z) e = rw (← add-one t) (sym (marked-stays len L t route.places route.marks cells (sym e) z)) ∙ next-stays t h z
-      go (no n) e =
-          rw (← add-one t) (sym (marked-raised len L t route.places route.marks cells (sym e) n))
-          ∙ ap (λ (j : ℕ). store len (made t) j (raise L (block len (made t) j))) (r.places t h)
-          ∙ next-rises t h n
+  marked-made (suc t) h =
+      rw (← add-one t) (sym (marked-more len L t route.recorders cells (sym (marked-made t (omega arith))))) ∙ next-made t h
 
   -- all marks record all values
-  pub marked-is : marked_cells len L (length vs) route.places route.marks cells ≡ join (record_all (len * L) L vs bs) ++ drop (count * len) cells
+  pub marked-is : marked_cells len L (length vs) route.recorders cells ≡ join (record_all (len * L) L vs bs) ++ drop (count * len) cells
   marked-is = marked-made (length vs) (omega arith) ∙ ap (λ (us : List ℕ). join (record_all (len * L) L us bs) ++ drop (count * len) cells) (take-length vs)

@@ -1,12 +1,16 @@
 -- Laws of a block as a part of the cells, of blocks passed over in runs, and of the later stage. Assumes nothing.
-use Rattle.std.specs.Prelude.{List, ◌++◌, ◌≡◌, refl, drop, length, take}
-use Rattle.std.proofs.Common.{◌∙◌, sym, mul-le-mul_left, pow-suc, drop-drop}
+use Rattle.std.specs.Prelude.{List, [], ◌∷◌, ◌++◌, ◌≡◌, refl, drop, length, take}
+use Rattle.std.proofs.Common.{◌∙◌, sym, subst, ap₂, mul-le-mul_left, pow-suc, drop-drop}
 use Rattle.std.proofs.Math.Path.{ap}
 use Prim.Native.Nat.{◌*◌, ◌+◌, ◌-◌, ◌/◌, ◌<◌, ◌^◌, ◌≤◌, suc, zero, ℕ}
 use Rattle.std.proofs.Math.Decide.{dec_le}
 use native.Mathlib.Omega.{arith}
 use Rattle.laws.specs.Index.{pow-pos'}
-use Rattle.laws.specs.Live.{count-full, run-keeps}
+use Rattle.laws.specs.Live.{count-full, count-more, run-keeps}
+use Rattle.cells.specs.declared.blocks.Blocks.{Blocks}
+use Rattle.cells.specs.declared.blocks.LiveBlocks.{LiveBlocks}
+use Rattle.cells.specs.Live.{FirstLive, FullFrom, GivesLive}
+use Rattle.std.specs.Iterator.{Drains}
 use Rattle.cells.specs.Meaning.{RunFrom}
 use Rattle.cells.specs.Laws.{past-full}
 use Rattle.rules.specs.Cells.{Low, chop, store}
@@ -34,6 +38,34 @@ pub count_past : (len L from to : ℕ) (cells : List ℕ) → Low L cells → fr
 count_past len L from to cells l h f =
     run-keeps (λ x. length (live_weights (len * L) (chop len x cells)) ≡ length (live_weights (len * L) (chop len from cells))) from to h
     (λ x a b e. count-full (len * L) len x cells (past-full len L from to cells l f x a b) ∙ e) refl
+
+-- how many of the first n blocks are live
+abbrev passed : Blocks → ℕ → ℕ
+passed b n = length (live_weights (b.len * b.top) (chop b.len n b.cells.now))
+
+-- full blocks that the look for live ones passes count nothing
+count_full_from : (b : Blocks) (from to : ℕ) → from ≤ to → FullFrom b from to → passed b to ≡ passed b from
+count_full_from b from to h f = run-keeps (λ x. passed b x ≡ passed b from) from to h (λ x l m e. count-full (b.len * b.top) b.len x b.cells.now (f x l m) ∙ e) refl
+
+-- the look gives the live blocks that are left, each once
+count-drained : (s : LiveBlocks) (xs : List (ℕ × ℕ)) → Drains GivesLive s xs → passed s.blocks s.blocks.count ≡ passed s.blocks s.at + length xs
+count-drained s [] (u, (t, e, g)) =
+    let f : FullFrom s.blocks s.at s.blocks.count = subst (λ (r : LiveBlocks). FullFrom r.blocks r.at r.blocks.count) (sym e) g.0 in
+    omega (arith, count_full_from s.blocks s.at s.blocks.count s.inside f)
+count-drained s (x ∷ xs) (u, (t, (j, g, y), z)) =
+    let f : FirstLive s.blocks s.at x.0 x.1 = g.0 in
+    let a : passed s.blocks x.0 ≡ passed s.blocks s.at = count_full_from s.blocks s.at x.0 f.after f.passed in
+    let m = count-more (s.blocks.len * s.blocks.top) s.blocks.len x.0 s.blocks.cells.now (λ e. f.live (f.weighs ∙ e)) in
+    let r : passed j.blocks j.blocks.count ≡ passed j.blocks j.at + length xs = count-drained j xs (u, (t, y, z)) in
+    let q : passed s.blocks s.blocks.count ≡ passed s.blocks (x.0 + 1) + length xs =
+    sym (ap (λ (b : Blocks). passed b b.count) g.1.0) ∙ r ∙ ap₂ (λ (b : Blocks) (n : ℕ). passed b n + length xs) g.1.0 g.1.1 in
+    omega (arith, q, m, a)
+
+-- so many of all blocks are live as the look from the first one on gives
+pub count-all : (b : Blocks) (s : LiveBlocks) (xs : List (ℕ × ℕ)) → s.blocks ≡ b → s.at ≡ 0 → Drains GivesLive s xs → length xs ≡ length (live_weights (b.len * b.top) (chop b.len b.count b.cells.now))
+count-all b s xs e z d =
+    let n : passed b b.count ≡ passed b 0 + length xs = sym (ap (λ (c : Blocks). passed c c.count) e) ∙ count-drained s xs d ∙ ap₂ (λ (c : Blocks) (a : ℕ). passed c a + length xs) e z in
+    omega (arith, n)
 
 -- ---- the later stage
 

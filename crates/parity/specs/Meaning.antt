@@ -5,13 +5,6 @@ use Rattle.rules.specs.Cells.{chop}
 use Rattle.rules.specs.Search.{Found, Result, at, done, no_place_left, nowhere, pick}
 use Rattle.rules.specs.Stage.{live_weights}
 use Rattle.rules.specs.Staged.{Sheet, live_count, move_to, parity_length}
-use Rattle.parity.specs.declared.Later.{Later}
-use Rattle.parity.specs.declared.Later.TheVariants as later
-
--- the later stage that was found, told by how many stages are left there
-abbrev pub as_later : Later → Found
-as_later (later.Left d) = at d
-as_later later.Nowhere = nowhere
 
 -- the first later stage, with d left and fewer, in which at least 2 ^ s parity blocks aren't full: how many stages are left there
 unfoldable pub later_left : ℕ → ℕ → ℕ → ℕ → List ℕ → Found

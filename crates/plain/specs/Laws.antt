@@ -1,9 +1,9 @@
 -- Laws of a scan: what one more block adds to what is known, and what a scan says of a reading and of a change. Assumes nothing.
-use Rattle.std.specs.Prelude.{Bool, true, false, ◌≢◌, ◌≡◌, ℕ, zero, suc, ◌+◌, ◌-◌, ◌*◌, ◌%◌, ◌≤◌, ◌<◌, get_or, take, drop, replicate, set}
+use Rattle.std.specs.Prelude.{Bool, true, false, ◌≢◌, ◌≡◌, ℕ, zero, suc, ◌+◌, ◌-◌, ◌*◌, ◌%◌, ◌≤◌, ◌<◌, get_or, take, drop, replicate, set, Option, Some, None}
 use mathlib.Core.List.{List, [], ◌∷◌, ◌++◌}
-use Rattle.std.proofs.Common.{⊎_elim, ◌∙◌, eq-or-lt_of_le, le_of_suc-le-suc, le_refl, mul-pos, not-suc-le-zero, add-one, drop-cons, get_or-set_other, get_or-set_same, get_or-take, length-take-le, take-suc}
+use Rattle.std.proofs.Common.{⊎_elim, ◌∙◌, eq-or-lt_of_le, le_of_suc-le-suc, le_refl, mul-pos, not-suc-le-zero, add-one, drop-cons, get_or-set_other, get_or-set_same, take-suc}
 use Rattle.std.proofs.Math.Path.{ap, refl, subst, sym}
-use Rattle.std.proofs.Math.Decide.{ℕ_discrete, dec_lt}
+use Rattle.std.proofs.Math.Decide.{ℕ_discrete}
 use native.Mathlib.Omega.{arith}
 use Rattle.std.proofs.Math.ListN.{length}
 use Rattle.std.proofs.lemmas.List.{get_or-replicate, set_at}
@@ -23,22 +23,23 @@ use Rattle.rules.specs.Accept.{most_bits}
 use Rattle.rules.specs.Block.{State, active, broken, cells_of, cycle, empty, full, grown, next, state_of}
 use Rattle.rules.specs.Cells.{Low, block, store, sum, tabulate}
 use Rattle.rules.specs.Plain.{AllActive, AllOnCycle, BlocksOk, FullLast, HasBit, IsEmpty, NoRepeat, OnCycle, bit_of, blocks_ok?, carry_out, change, has_bit?, is_empty?, plan, plan_from, read, states, value_at, weight}
-use Rattle.rules.specs.Search.{at, done, first, no_place_left, nowhere, pick}
+use Rattle.rules.specs.Search.{at, done, first, no_place_left, nowhere}
 use Rattle.rules.specs.SearchLaws.{First, all_more, first-eq, hit, miss, pick-elim, pick_no, pick_yes}
 use Rattle.rules.specs.Stage.{Absent}
 use Rattle.rules.specs.Calls.{Pass, Refuse, as_check}
 use Rattle.rules.specs.declared.Answer.{Answer}
 use Rattle.rules.specs.declared.Answer.TheVariants.{BadSheet, Done}
 use Rattle.plan.specs.declared.Look.{Look}
-use Rattle.plain.specs.Meaning.{EmptyFrom, Free, Held, Place, PlaceOf, Scanned, closing, differing, distinct?, erase, free, held, look_of, none, parities, plan_in, some, step}
+use Rattle.plan.specs.declared.Place as Looked
+use Rattle.plan.specs.Meaning.{value_in, weight_in}
+use Rattle.plain.specs.Meaning.{EmptyFrom, Free, Held, Place, PlaceOf, Scanned, block_at, block_found, closing, differing, distinct?, erase, free, held, look_of, none, parities, plan_in, some, step, step_in}
 use Rattle.plain.specs.OrderLaws.{Ends, Ordered, order-ends, order-first, order-hole}
-use Rattle.plan.specs.declared.Plan.TheVariants.{Nowhere, Step}
 
 -- ---- one more block
 
--- a bit's block and weight stay where the next block has another bit or none
-held-skip : {st : ℕ → State} {i j m p v : ℕ} → ¬ (HasBit i (st j)) → Held st i j m p v → Held st i (suc j) m p v
-held-skip n (held x v l e b) = held x v (omega arith) e b
+-- a bit's block stays where the next block has another bit or none
+held-skip : {st : ℕ → State} {i j : ℕ} {p : Option Looked.Place} → ¬ (HasBit i (st j)) → Held st i j p → Held st i (suc j) p
+held-skip n (held p l e b) = held p (omega arith) e b
 held-skip n (free b) = free (all_more b n)
 
 -- ---- a list with one more number
@@ -101,11 +102,8 @@ pub differing-done : (bits : List ℕ) → Distinct bits → Done 0 ≡ differin
 differing-done bits d = sym (pick_yes (distinct? bits) (Done 0) BadSheet d)
 
 -- and where one does
-pub differing-not : (i j n : ℕ) (bits : List ℕ) → i < j → j < n → n ≤ length bits → get_or bits i 0 ≡ get_or bits j 0 → BadSheet ≡ differing (take n bits)
-differing-not i j n bits l h g e =
-    let q : j < length (take n bits) = omega (arith, length-take-le n bits g) in
-    let p : i < n = omega arith in
-    sym (pick_no (distinct? (take n bits)) (Done 0) BadSheet (λ d. distinct-at i j (take n bits) l q d (get_or-take n bits i 0 p ∙ e ∙ sym (get_or-take n bits j 0 h))))
+pub differing-not : (i j : ℕ) (bits : List ℕ) → i < j → j < length bits → get_or bits i 0 ≡ get_or bits j 0 → BadSheet ≡ differing bits
+differing-not i j bits l h e = sym (pick_no (distinct? bits) (Done 0) BadSheet (λ d. distinct-at i j bits l h d e))
 
 -- the answer where the bits are k and the last block in use is full
 pub closing-full : (f : Bool) (n k : ℕ) (a : Answer) → f ≡ true → n ≡ k → BadSheet ≡ closing f n k a
@@ -130,29 +128,28 @@ pub record Seen (k : ℕ) (st : ℕ → State) (j : ℕ) (bits : List ℕ) : Typ
   pub told : (i : ℕ) → Absent i bits → Free st j i
   pub free : (i : ℕ) → Free st j i → Absent i bits
 
--- the blocks below j are on cycles with no bit twice; each bit's block and weight, and the bits seen
-pub record Known (k m : ℕ) (st : ℕ → State) (j : ℕ) (places weights bits : List ℕ) : Type 0 where
+-- the blocks below j are on cycles with no bit twice; each bit's block, and the bits seen
+pub record Known (k : ℕ) (st : ℕ → State) (j : ℕ) (looked : List (Option Looked.Place)) (bits : List ℕ) : Type 0 where
   pub cycles : AllOnCycle j st
   pub apart : NoRepeat j st
-  pub held : (i : ℕ) → i < k → Held st i j m (get_or places i 0) (get_or weights i 0)
+  pub held : (i : ℕ) → i < k → Held st i j (get_or looked i None)
   pub seen : Seen k st j bits
 
 -- nothing below 0
-known-none : (k m : ℕ) (st : ℕ → State) → k ≤ most_bits → Known k m st 0 (replicate most_bits m) (replicate most_bits 0) []
-known-none k m st h = record {
+known-none : (k : ℕ) (st : ℕ → State) → k ≤ most_bits → Known k st 0 (replicate most_bits None) []
+known-none k st h = record {
   cycles = λ j l. absurd (not-suc-le-zero l);
   apart = λ j l. absurd (not-suc-le-zero l);
   held = λ i l.
       let q : i < most_bits = omega arith in
-      subst (λ (p : ℕ). Held st i 0 m p (get_or (replicate most_bits 0) i 0)) (sym (get_or-replicate most_bits i m 0 q))
-      (subst (λ (v : ℕ). Held st i 0 m m v) (sym (get_or-replicate most_bits i 0 0 q)) (free (λ y z. absurd (not-suc-le-zero z))));
+      subst (Held st i 0) (sym (get_or-replicate most_bits i None None q)) (free (λ y z. absurd (not-suc-le-zero z)));
   seen = record { below = tt; told = λ i o y l. absurd (not-suc-le-zero l); free = λ i f. tt };
 }
 
-module _ {k m : ℕ} {st : ℕ → State} {j : ℕ} {places weights bits : List ℕ} (g : Known k m st j places weights bits) where
+module _ {k : ℕ} {st : ℕ → State} {j : ℕ} {looked : List (Option Looked.Place)} {bits : List ℕ} (g : Known k st j looked bits) where
   -- one more block with no bit
-  known-idle : OnCycle (st j) → ((i : ℕ) → ¬ (HasBit i (st j))) → Known k m st (j + 1) places weights bits
-  known-idle o n = subst (λ (x : ℕ). Known k m st x places weights bits) (sym (add-one j)) record {
+  known-idle : OnCycle (st j) → ((i : ℕ) → ¬ (HasBit i (st j))) → Known k st (j + 1) looked bits
+  known-idle o n = subst (λ (x : ℕ). Known k st x looked bits) (sym (add-one j)) record {
     cycles = all_more g.cycles o;
     apart = all_more g.apart (λ x l s. let r = bit-same (st x) (st j) s in n r.0 r.2);
     held = λ i l. held-skip (n i) (g.held i l);
@@ -164,26 +161,23 @@ module _ {k m : ℕ} {st : ℕ → State} {j : ℕ} {places weights bits : List 
   }
 
   -- a full block
-  pub known-full : st j ≡ full → Known k m st (j + 1) places weights bits
+  pub known-full : st j ≡ full → Known k st (j + 1) looked bits
   known-full q = known-idle (subst OnCycle (sym q) tt) (λ i h. subst (HasBit i) q h)
 
   -- an empty block
-  known-empty : st j ≡ empty → Known k m st (j + 1) places weights bits
+  known-empty : st j ≡ empty → Known k st (j + 1) looked bits
   known-empty q = known-idle (subst OnCycle (sym q) tt) (λ i h. subst (HasBit i) q h)
 
   module _ (b v : ℕ) (q : st j ≡ active b v) where
-    -- each bit's block and weight, with block j
-    held_more : b < length places → b < length weights → Free st j b → (i : ℕ) → i < k → Dec (i ≡ b)
-        → Held st i (suc j) m (get_or (set places b j) i 0) (get_or (set weights b v) i 0)
-    held_more lp lw f i l (yes c) =
-        let h : Held st b (suc j) m j v = held j v (le_refl (suc j)) q f in
-        subst (λ (x : ℕ). Held st x (suc j) m (get_or (set places b j) x 0) (get_or (set weights b v) x 0)) (sym c)
-        (subst (λ (p : ℕ). Held st b (suc j) m p (get_or (set weights b v) b 0)) (sym (get_or-set_same places b j 0 lp))
-        (subst (λ (w : ℕ). Held st b (suc j) m j w) (sym (get_or-set_same weights b v 0 lw)) h))
-    held_more lp lw f i l (no d) =
+    -- each bit's block, with block j
+    held_more : b < length looked → Free st j b → (i : ℕ) → i < k → Dec (i ≡ b) → Held st i (suc j) (get_or (set looked b (Some (block_at j v))) i None)
+    held_more lp f i l (yes c) =
+        let h : Held st b (suc j) (Some (block_at j v)) = held (block_at j v) (le_refl (suc j)) q f in
+        subst (λ (x : ℕ). Held st x (suc j) (get_or (set looked b (Some (block_at j v))) x None)) (sym c)
+        (subst (Held st b (suc j)) (sym (get_or-set_same looked b (Some (block_at j v)) None lp)) h)
+    held_more lp f i l (no d) =
         let n : ¬ (HasBit i (st j)) = λ h. d (subst (HasBit i) q h) in
-        subst (λ (p : ℕ). Held st i (suc j) m p (get_or (set weights b v) i 0)) (sym (get_or-set_other places b i j 0 d))
-        (subst (λ (w : ℕ). Held st i (suc j) m (get_or places i 0) w) (sym (get_or-set_other weights b i v 0 d)) (held-skip n (g.held i l)))
+        subst (Held st i (suc j)) (sym (get_or-set_other looked b i (Some (block_at j v)) None d)) (held-skip n (g.held i l))
 
     -- the bits seen, with that of block j
     seen_more : b < k → Absent b bits → Seen k st (suc j) (bits ++ (b ∷ []))
@@ -194,42 +188,41 @@ module _ {k m : ℕ} {st : ℕ → State} {j : ℕ} {places weights bits : List 
     }
 
     -- an active block whose bit no earlier one holds
-    known-active : b < k → b < length places → b < length weights → Absent b bits → Known k m st (j + 1) (set places b j) (set weights b v) (bits ++ (b ∷ []))
-    known-active l lp lw o = subst (λ (x : ℕ). Known k m st x (set places b j) (set weights b v) (bits ++ (b ∷ []))) (sym (add-one j)) record {
+    known-active : b < k → b < length looked → Absent b bits → Known k st (j + 1) (set looked b (Some (block_at j v))) (bits ++ (b ∷ []))
+    known-active l lp o = subst (λ (x : ℕ). Known k st x (set looked b (Some (block_at j v))) (bits ++ (b ∷ []))) (sym (add-one j)) record {
       cycles = all_more g.cycles (subst OnCycle (sym q) tt);
       apart = all_more g.apart (λ x z s.
           let r = bit-same (st x) (st j) s in
           g.seen.told b o x z (subst (λ (i : ℕ). HasBit i (st x)) (subst (HasBit r.0) q r.2) r.1));
-      held = λ i z. held_more lp lw (g.seen.told b o) i z (ℕ_discrete i b);
+      held = λ i z. held_more lp (g.seen.told b o) i z (ℕ_discrete i b);
       seen = seen_more l o;
     }
 
 -- empty blocks up to the last
-pub known-rest : {k m : ℕ} {st : ℕ → State} {j : ℕ} {places weights bits : List ℕ} → j ≤ m → ((y : ℕ) → j ≤ y → y < m → st y ≡ empty)
-    → Known k m st j places weights bits → Known k m st m places weights bits
-known-rest {k} {m} {st} {j} {places} {weights} {bits} l h = run-keeps (λ y. Known k m st y places weights bits) j m l (λ y a b g. known-empty g (h y a b))
+pub known-rest : {k m : ℕ} {st : ℕ → State} {j : ℕ} {looked : List (Option Looked.Place)} {bits : List ℕ} → j ≤ m → ((y : ℕ) → j ≤ y → y < m → st y ≡ empty)
+    → Known k st j looked bits → Known k st m looked bits
+known-rest {k} {m} {st} {j} {looked} {bits} l h = run-keeps (λ y. Known k st y looked bits) j m l (λ y a b g. known-empty g (h y a b))
 
 -- ---- what is known where the bits noted differ
 
 -- the bits of the active blocks below j: where they differ all is known of those blocks, and they differ where no two of the m blocks have one bit
-pub record Noted (k m : ℕ) (st : ℕ → State) (j : ℕ) (places weights bits : List ℕ) : Type 0 where
-  pub known : Distinct bits → Known k m st j places weights bits
+pub record Noted (k m : ℕ) (st : ℕ → State) (j : ℕ) (looked : List (Option Looked.Place)) (bits : List ℕ) : Type 0 where
+  pub known : Distinct bits → Known k st j looked bits
   pub differ : NoRepeat m st → Distinct bits
 
 -- nothing below 0
-pub noted-none : (k m : ℕ) (st : ℕ → State) → k ≤ most_bits → Noted k m st 0 (replicate most_bits m) (replicate most_bits 0) []
-noted-none k m st h = record { known = λ d. known-none k m st h; differ = λ a. tt }
+pub noted-none : (k m : ℕ) (st : ℕ → State) → k ≤ most_bits → Noted k m st 0 (replicate most_bits None) []
+noted-none k m st h = record { known = λ d. known-none k st h; differ = λ a. tt }
 
-module _ {k m : ℕ} {st : ℕ → State} {j : ℕ} {places weights bits : List ℕ} (g : Noted k m st j places weights bits) where
+module _ {k m : ℕ} {st : ℕ → State} {j : ℕ} {looked : List (Option Looked.Place)} {bits : List ℕ} (g : Noted k m st j looked bits) where
   -- blocks with no bit
-  pub noted-on : {x : ℕ} → (Known k m st j places weights bits → Known k m st x places weights bits) → Noted k m st x places weights bits
+  pub noted-on : {x : ℕ} → (Known k st j looked bits → Known k st x looked bits) → Noted k m st x looked bits
   noted-on f = record { known = λ d. f (g.known d); differ = g.differ }
 
   -- an active block
-  pub noted-active : (b v : ℕ) → st j ≡ active b v → j < m → b < k → b < length places → b < length weights
-      → Noted k m st (j + 1) (set places b j) (set weights b v) (bits ++ (b ∷ []))
-  noted-active b v q h l lp lw = record {
-    known = λ d. let r = distinct-front b bits d in known-active (g.known r.0) b v q l lp lw r.1;
+  pub noted-active : (b v : ℕ) → st j ≡ active b v → j < m → b < k → b < length looked → Noted k m st (j + 1) (set looked b (Some (block_at j v))) (bits ++ (b ∷ []))
+  noted-active b v q h l lp = record {
+    known = λ d. let r = distinct-front b bits d in known-active (g.known r.0) b v q l lp r.1;
     differ = λ a.
         let d = g.differ a in
         distinct_snoc b bits d ((g.known d).seen.free b (λ y z c. a j h y z (same_bit b (st y) (st j) c (to-bit q))));
@@ -237,13 +230,13 @@ module _ {k m : ℕ} {st : ℕ → State} {j : ℕ} {places weights bits : List 
 
 -- ---- all k bits
 
-module _ {k m : ℕ} {st : ℕ → State} {places weights bits : List ℕ} (g : Known k m st m places weights bits) (d : Distinct bits) where
+module _ {k m : ℕ} {st : ℕ → State} {looked : List (Option Looked.Place)} {bits : List ℕ} (g : Known k st m looked bits) (d : Distinct bits) where
   -- where k bits are seen, all have active blocks
   seen_all : length bits ≡ k → AllActive k m st
   seen_all e i l = go (g.held i l)
     where
-      go : {p v : ℕ} → Held st i m m p v → (j : ℕ) × (j < m) × HasBit i (st j)
-      go (held x v q h f) = (x, q, to-bit h)
+      go : {p : Option Looked.Place} → Held st i m p → (j : ℕ) × (j < m) × HasBit i (st j)
+      go (held p q h f) = (p.block, q, to-bit h)
       go (free f) = absurd (omega (arith, pigeon-absent k i bits l (g.seen.free i f) d g.seen.below))
 
   -- and where all have, k bits are seen
@@ -273,54 +266,56 @@ pub scan-hole : (k L m j : ℕ) (xs : List ℕ) (r : Look) → r.answer ≡ BadS
     → ¬ ((y : ℕ) → j + 1 ≤ y → y < m → IsEmpty (states k L xs y)) → Scanned k L m xs r
 scan-hole k L m j xs r f l q n = refused-is k L m xs r f (λ h. n (λ y a b. empty-on m (states k L xs) h.2.0 y b j (omega arith) (subst IsEmpty (sym q) tt)))
 
-module _ (k L m n : ℕ) (xs bits : List ℕ) {j e : ℕ} {f : Bool} {places weights : List ℕ}
-    (g : Noted k m (states k L xs) j places weights (take n bits)) (o : Ordered (states k L xs) m j e f)
-    (long : n ≤ length bits) (whole : (j < m) → (n ≤ k) → ⊥) (inside : j ≤ m) where
-  -- where the bits differ they are at most k, so every block was looked at
-  at-end : Distinct (take n bits) → j ≡ m
-  at-end d =
-      let few : n ≤ k = omega (arith, length-take-le n bits long, pigeon k (take n bits) d (g.known d).seen.below) in
-      let q : ¬ (j < m) = λ q. whole q few in
-      omega arith
+-- the number of the first empty block, which is m where there is none
+abbrev pub Numbered : Option Looked.Place → ℕ → ℕ → Type 0
+Numbered (Some p) m e = (e ≡ p.block) × (p.block < m)
+Numbered None m e = e ≡ m
 
-  -- all is known then
-  all_known : Distinct (take n bits) → Known k m (states k L xs) m places weights (take n bits)
-  all_known d = subst (λ (x : ℕ). Known k m (states k L xs) x places weights (take n bits)) (at-end d) (g.known d)
+-- by that number it is the first
+first-numbered : {P : ℕ → Type 0} {m e : ℕ} (w : Option Looked.Place) → Numbered w m e → Place P m m e → First P m (block_found w)
+first-numbered {P} {m} (Some p) h (some x l q b) = subst (λ (y : ℕ). First P m (at y)) h.0 (hit x l q b)
+first-numbered (Some p) h (none b) = absurd (omega arith)
+first-numbered None h (some x l q b) = absurd (omega arith)
+first-numbered None h (none b) = miss b
 
-  -- and the order of all blocks
-  all-ordered : Distinct (take n bits) → Ordered (states k L xs) m m e f
-  all-ordered d = subst (λ (x : ℕ). Ordered (states k L xs) m x e f) (at-end d) o
+-- k + 1 bits are noted: the search for a repeat finds one
+pub scan-crowded : (k L m : ℕ) (xs bits : List ℕ) (r : Look) {j : ℕ} {looked : List (Option Looked.Place)} → r.answer ≡ differing bits → Noted k m (states k L xs) j looked bits
+    → length bits ≡ k + 1 → Scanned k L m xs r
+scan-crowded k L m xs bits r f g e =
+    let n : ¬ (Distinct bits) = λ d. omega (arith, e, pigeon k bits d (g.known d).seen.below) in
+    refused-is k L m xs r (f ∙ pick_no (distinct? bits) (Done 0) BadSheet n) (λ o. n (g.differ o.1))
 
+module _ (k L m : ℕ) (xs bits : List ℕ) {e : ℕ} {f : Bool} {looked : List (Option Looked.Place)} (g : Noted k m (states k L xs) m looked bits) (o : Ordered (states k L xs) m m e f) where
   -- the search for a repeat decides, unless all k bits have active blocks and the last block in use is full
-  scan-repeats : (Distinct (take n bits) → ¬ (FullLast k m (states k L xs))) → Scanned k L m xs (look_of (differing (take n bits)) places weights e)
-  scan-repeats h =
-      pick-elim (λ a. Scanned k L m xs (look_of a places weights e)) (distinct? (take n bits)) (Done 0) BadSheet
+  scan-repeats : (w : Option Looked.Place) → Numbered w m e → (Distinct bits → ¬ (FullLast k m (states k L xs))) → Scanned k L m xs (look_of (differing bits) looked w)
+  scan-repeats w h n =
+      pick-elim (λ a. Scanned k L m xs (look_of a looked w)) (distinct? bits) (Done 0) BadSheet
       (λ d. record {
-        answer = sym (pick_yes (blocks_ok? k L m xs) (Done 0) BadSheet ((all_known d).cycles, (all_known d).apart, (order-hole (all-ordered d), h d)));
-        first = λ r. order-first (all-ordered d);
-        bits = λ r. (all_known d).held;
+        answer = sym (pick_yes (blocks_ok? k L m xs) (Done 0) BadSheet ((g.known d).cycles, (g.known d).apart, (order-hole o, n d)));
+        first = λ r. first-numbered w h (order-first o);
+        bits = λ r. (g.known d).held;
       })
-      (λ d. refused-is k L m xs (look_of BadSheet places weights e) refl (λ b. d (g.differ b.1)))
+      (λ d. refused-is k L m xs (look_of BadSheet looked w) refl (λ b. d (g.differ b.1)))
 
   -- k bits are noted, and the last block in use is full
-  scan-full-last : n ≡ k → f ≡ true → Scanned k L m xs (look_of BadSheet places weights e)
-  scan-full-last c t = refused-is k L m xs (look_of BadSheet places weights e) refl (λ b.
+  scan-full-last : (w : Option Looked.Place) → length bits ≡ k → f ≡ true → Scanned k L m xs (look_of BadSheet looked w)
+  scan-full-last w c t = refused-is k L m xs (look_of BadSheet looked w) refl (λ b.
       let d = g.differ b.1 in
-      b.2.1 (seen_all (all_known d) d (length-take-le n bits long ∙ c), subst (Ends (states k L xs) m) t (order-ends (all-ordered d))))
+      b.2.1 (seen_all (g.known d) d c, subst (Ends (states k L xs) m) t (order-ends o)))
 
   -- not k bits are noted
-  not-full-last : n ≢ k → Distinct (take n bits) → ¬ (FullLast k m (states k L xs))
-  not-full-last h d p = h (sym (length-take-le n bits long) ∙ all_seen (all_known d) d p.0)
+  not-full-last : length bits ≢ k → Distinct bits → ¬ (FullLast k m (states k L xs))
+  not-full-last n d p = n (all_seen (g.known d) d p.0)
 
 -- the search for a repeat decides, but where k bits are noted and the last block in use is full
-pub scan-decided : (k L m n : ℕ) (xs bits : List ℕ) {j e : ℕ} (f : Bool) {places weights : List ℕ} → Noted k m (states k L xs) j places weights (take n bits)
-    → Ordered (states k L xs) m j e f → n ≤ length bits → ((j < m) → (n ≤ k) → ⊥) → j ≤ m → Scanned k L m xs (look_of (closing f n k (differing (take n bits))) places weights e)
-scan-decided k L m n xs bits {e = e} true {places} {weights} g o h s l =
-    pick-elim (λ a. Scanned k L m xs (look_of a places weights e)) (ℕ_discrete n k) BadSheet (differing (take n bits))
-    (λ c. scan-full-last k L m n xs bits g o h s l c refl)
-    (λ c. scan-repeats k L m n xs bits g o h s l (not-full-last k L m n xs bits g o h s l c))
-scan-decided k L m n xs bits false g o h s l =
-    scan-repeats k L m n xs bits g o h s l (λ d p. order-ends (all-ordered k L m n xs bits g o h s l d) p.1)
+pub scan-decided : (k L m n : ℕ) (xs bits : List ℕ) {e : ℕ} (f : Bool) {looked : List (Option Looked.Place)} (w : Option Looked.Place) → Noted k m (states k L xs) m looked bits
+    → Ordered (states k L xs) m m e f → Numbered w m e → length bits ≡ n → Scanned k L m xs (look_of (closing f n k (differing bits)) looked w)
+scan-decided k L m n xs bits true {looked} w g o h t =
+    pick-elim (λ a. Scanned k L m xs (look_of a looked w)) (ℕ_discrete n k) BadSheet (differing bits)
+    (λ c. scan-full-last k L m xs bits g o w (t ∙ c) refl)
+    (λ c. scan-repeats k L m xs bits g o w h (not-full-last k L m xs bits g o (λ q. c (sym t ∙ q))))
+scan-decided k L m n xs bits false w g o h t =
+    scan-repeats k L m xs bits g o w h (λ d p. order-ends o p.1)
 
 -- ---- what its answer tells
 
@@ -441,66 +436,45 @@ module _ (k L m i : ℕ) (xs : List ℕ) (h : 0 < k) (g : 0 < L) (b : i < k) whe
   empty-cells j n = block-means j empty (empty-view (states k L xs j) n) ∙ sym (cycle-zero k L i (omega arith))
 
   -- a bit's block and the first empty block give the place of the change
-  place_is : {p v e : ℕ} → Held (states k L xs) i m m p v → Place (λ y. IsEmpty (states k L xs y)) m m e
-      → PlaceOf k L m i xs (pick (dec_lt p m) (Step p v) (pick (dec_lt e m) (Step e 0) Nowhere))
-  place_is {e = e} (held x v l q f) w =
-      let c : Means k L (active i v) (block k xs x) = block-means x (active i v) q in
-      subst (PlaceOf k L m i xs) (sym (pick_yes (dec_lt x m) (Step x v) (pick (dec_lt e m) (Step e 0) Nowhere) l))
-      (step x v l c.2 c.3 (own_block (hit x l (to-bit q) f) v q))
-  place_is (free f) (some x l n z) =
-      let no_own : ¬ (m < m) = λ q. omega arith in
-      subst (PlaceOf k L m i xs) (sym (pick_no (dec_lt m m) (Step m 0) (pick (dec_lt x m) (Step x 0) Nowhere) no_own ∙ pick_yes (dec_lt x m) (Step x 0) Nowhere l))
-      (step x 0 l (mul-pos h g) (empty-cells x n) (new-block (miss f) (hit x l n z)))
-  place_is (free f) (none z) =
-      let no_own : ¬ (m < m) = λ q. omega arith in
-      subst (PlaceOf k L m i xs) (sym (pick_no (dec_lt m m) (Step m 0) (pick (dec_lt m m) (Step m 0) Nowhere) no_own ∙ pick_no (dec_lt m m) (Step m 0) Nowhere no_own))
-      (erase (no_block (miss f) (miss z)))
+  place_is : (w : Option Looked.Place) {p : Option Looked.Place} → Held (states k L xs) i m p → First (λ y. IsEmpty (states k L xs y)) m (block_found w) → PlaceOf k L m i xs (step_in p w)
+  place_is w (held p l q f) n =
+      let c : Means k L (active i p.weight) (block k xs p.block) = block-means p.block (active i p.weight) q in
+      step p.block p.weight l c.2 c.3 (own_block (hit p.block l (to-bit q) f) p.weight q)
+  place_is w (free f) n = go w n
+    where
+      go : (w : Option Looked.Place) → First (λ y. IsEmpty (states k L xs y)) m (block_found w) → PlaceOf k L m i xs (step_in None w)
+      go (Some p) (hit x l e z) = step x 0 l (mul-pos h g) (empty-cells x e) (new-block (miss f) (hit x l e z))
+      go None (miss z) = erase (no_block (miss f) (miss z))
 
 -- a bit's weight gives its reading
-read_is : (k L m i : ℕ) (xs : List ℕ) {p v : ℕ} → Held (states k L xs) i m m p v → read k L m xs i ≡ v % 2
+read_is : (k L m i : ℕ) (xs : List ℕ) {p : Option Looked.Place} → Held (states k L xs) i m p → read k L m xs i ≡ weight_in p % 2
 unfolding read bit_of
-read_is k L m i xs (held x v l q f) =
+read_is k L m i xs (held p l q f) =
     let st = states k L xs in
-    ap (value_at (k * L) st) (first-eq (λ y. has_bit? i (st y)) m (hit x l (to-bit q) f)) ∙ ap (λ (s : State). weight (k * L) s % 2) q
+    ap (value_at (k * L) st) (first-eq (λ y. has_bit? i (st y)) m (hit p.block l (to-bit q) f)) ∙ ap (λ (s : State). weight (k * L) s % 2) q
 read_is k L m i xs (free f) = let st = states k L xs in ap (value_at (k * L) st) (first-eq (λ y. has_bit? i (st y)) m (miss f))
 
--- the place that a scan gives: the bit's block
-pub place-own : (s : Look) (i m : ℕ) → get_or s.places i 0 < m → plan_in s i m ≡ Step (get_or s.places i 0) (get_or s.weights i 0)
-place-own s i m h = pick_yes (dec_lt (get_or s.places i 0) m) (Step (get_or s.places i 0) (get_or s.weights i 0)) (pick (dec_lt s.free m) (Step s.free 0) Nowhere) h
-
--- the bit has no block: the first empty one
-pub place-empty : (s : Look) (i m : ℕ) → ¬ (get_or s.places i 0 < m) → s.free < m → plan_in s i m ≡ Step s.free 0
-place-empty s i m n h =
-    pick_no (dec_lt (get_or s.places i 0) m) (Step (get_or s.places i 0) (get_or s.weights i 0)) (pick (dec_lt s.free m) (Step s.free 0) Nowhere) n
-    ∙ pick_yes (dec_lt s.free m) (Step s.free 0) Nowhere h
-
--- and there is no empty one: none
-pub place_none : (s : Look) (i m : ℕ) → ¬ (get_or s.places i 0 < m) → ¬ (s.free < m) → plan_in s i m ≡ Nowhere
-place_none s i m n h =
-    pick_no (dec_lt (get_or s.places i 0) m) (Step (get_or s.places i 0) (get_or s.weights i 0)) (pick (dec_lt s.free m) (Step s.free 0) Nowhere) n
-    ∙ pick_no (dec_lt s.free m) (Step s.free 0) Nowhere h
-
 -- the place that a scan gives is the place of the change
-pub scanned-place : (k L m i : ℕ) (xs : List ℕ) (s : Look) → 2 ≤ k → 1 ≤ L → m * k ≤ length xs → i < k → Scanned k L m xs s → as_check s.answer ≡ Pass → PlaceOf k L m i xs (plan_in s i m)
-scanned-place k L m i xs s h g l b c e = place_is k L m i xs (omega arith) g b (c.bits (scanned-sound c e).0 i b) (c.first (scanned-sound c e).0)
+pub scanned-place : (k L m i : ℕ) (xs : List ℕ) (s : Look) → 2 ≤ k → 1 ≤ L → m * k ≤ length xs → i < k → Scanned k L m xs s → as_check s.answer ≡ Pass → PlaceOf k L m i xs (plan_in s i)
+scanned-place k L m i xs s h g l b c e = place_is k L m i xs (omega arith) g b s.free (c.bits (scanned-sound c e).0 i b) (c.first (scanned-sound c e).0)
 
--- the parity of the weight that a scan gives is the reading
-pub scanned-read : (k L m i : ℕ) (xs : List ℕ) (s : Look) → Scanned k L m xs s → as_check s.answer ≡ Pass → i < k → read k L m xs i ≡ get_or s.weights i 0 % 2
+-- the value that a scan gives is the reading
+pub scanned-read : (k L m i : ℕ) (xs : List ℕ) (s : Look) → Scanned k L m xs s → as_check s.answer ≡ Pass → i < k → read k L m xs i ≡ value_in s.bits i
 scanned-read k L m i xs s c e b = read_is k L m i xs (c.bits (scanned-sound c e).0 i b)
 
 -- ---- the values of the bits, one by one
 
 -- one more value in the sum
-pub parities-sum : (i : ℕ) (ws : List ℕ) → sum (parities (i + 1) ws) ≡ sum (parities i ws) + get_or ws i 0 % 2
-parities-sum i ws =
-    ap (λ (n : ℕ). sum (parities n ws)) (add-one i) ∙ ap sum (tabulate-more i (λ j. get_or ws j 0 % 2)) ∙ sum-append (parities i ws) (get_or ws i 0 % 2 ∷ []) ∙ omega arith
+pub parities-sum : (i : ℕ) (bits : List (Option Looked.Place)) → sum (parities (i + 1) bits) ≡ sum (parities i bits) + value_in bits i
+parities-sum i bits =
+    ap (λ (n : ℕ). sum (parities n bits)) (add-one i) ∙ ap sum (tabulate-more i (value_in bits)) ∙ sum-append (parities i bits) (value_in bits i ∷ []) ∙ omega arith
 
 -- one more value at the front of the output
-pub parities-set : (i : ℕ) (ws out : List ℕ) → i < length out → set (parities i ws ++ drop i out) i (get_or ws i 0 % 2) ≡ parities (i + 1) ws ++ drop (i + 1) out
-parities-set i ws out l =
-    let f : ℕ → ℕ = λ j. get_or ws j 0 % 2 in
+pub parities-set : (i : ℕ) (bits : List (Option Looked.Place)) (out : List ℕ) → i < length out → set (parities i bits ++ drop i out) i (value_in bits i) ≡ parities (i + 1) bits ++ drop (i + 1) out
+parities-set i bits out l =
+    let f : ℕ → ℕ = value_in bits in
     ap (λ (r : List ℕ). set (tabulate i f ++ r) i (f i)) (drop-cons out i 0 l)
     ∙ set_at (tabulate i f) (get_or out i 0) (drop (suc i) out) (f i) i (length-tabulate i f)
     ∙ sym (append_snoc (tabulate i f) (f i) (drop (suc i) out))
     ∙ ap (λ (r : List ℕ). r ++ drop (suc i) out) (sym (tabulate-more i f))
-    ∙ ap (λ (n : ℕ). parities n ws ++ drop n out) (sym (add-one i))
+    ∙ ap (λ (n : ℕ). parities n bits ++ drop n out) (sym (add-one i))

@@ -1,9 +1,9 @@
 -- What a scan of the blocks finds, in terms of their states. Assumes nothing.
-use Rattle.std.specs.Prelude.{Bool, true, false, ◌≡◌, List, [], ◌∷◌, ℕ, ◌+◌, ◌*◌, ◌%◌, ◌≤◌, ◌<◌, get_or, replicate}
-use Rattle.std.proofs.Math.Decide.{ℕ_discrete, dec_lt}
+use Rattle.std.specs.Prelude.{Bool, true, false, ◌≡◌, List, [], ◌∷◌, ℕ, ◌+◌, ◌*◌, ◌≤◌, ◌<◌, get_or, Option, Some, None}
+use Rattle.std.proofs.Math.Decide.{ℕ_discrete}
 use Rattle.laws.specs.Distinct.{Distinct}
-use Rattle.rules.specs.Accept.{most_bits}
-use Rattle.rules.specs.Search.{both?, pick, done, no_place_left}
+use Rattle.rules.specs.Search.{Found, at, both?, done, no_place_left, nowhere, pick}
+use Rattle.rules.specs.SearchLaws.{First}
 use Rattle.rules.specs.Cells.{tabulate, block, store, sum}
 use Rattle.rules.specs.Block.{State, active, cycle}
 use Rattle.rules.specs.Plain.{HasBit, IsEmpty, BlocksOk, Spare, blocks_ok?, states, change}
@@ -12,7 +12,8 @@ use Rattle.rules.specs.declared.Answer.{Answer}
 use Rattle.rules.specs.declared.Answer.TheVariants.{BadSheet, Done}
 use Rattle.rules.specs.declared.Settings.{Settings}
 use Rattle.plan.specs.declared.Look.{Look}
-use Rattle.plan.specs.Meaning.{LookOf}
+use Rattle.plan.specs.declared.Place as Looked
+use Rattle.plan.specs.Meaning.{LookOf, value_in}
 use Rattle.plan.specs.declared.Plan.{Plan}
 use Rattle.plan.specs.declared.Plan.TheVariants.{Nowhere, Step}
 
@@ -25,10 +26,15 @@ pub data Place (P : ℕ → Type 0) (j m : ℕ) : ℕ → Type 0 where
   some : (x : ℕ) → x < j → P x → ((y : ℕ) → y < x → ¬ (P y)) → Place P j m x
   none : ((y : ℕ) → y < j → ¬ (P y)) → Place P j m m
 
--- bit i below block j: its block and its weight, or m and 0 where it has none
-pub data Held (st : ℕ → State) (i j m : ℕ) : ℕ → ℕ → Type 0 where
-  held : (x v : ℕ) → x < j → st x ≡ active i v → Free st x i → Held st i j m x v
-  free : Free st j i → Held st i j m m 0
+-- bit i below block j: its block and its weight, or none
+pub data Held (st : ℕ → State) (i j : ℕ) : Option Looked.Place → Type 0 where
+  held : (p : Looked.Place) → p.block < j → st p.block ≡ active i p.weight → Free st p.block i → Held st i j (Some p)
+  free : Free st j i → Held st i j None
+
+-- the number of the block that a look has, or none
+abbrev pub block_found : Option Looked.Place → Found
+block_found (Some p) = at p.block
+block_found None = nowhere
 
 -- every block from a number on weighs nothing
 abbrev pub EmptyFrom : ℕ → List ℕ → ℕ → ℕ → Type 0
@@ -48,31 +54,38 @@ abbrev pub closing : Bool → ℕ → ℕ → Answer → Answer
 closing true n k a = pick (ℕ_discrete n k) BadSheet a
 closing false n k a = a
 
--- the look of stage 0 with this answer, these blocks and weights of the bits, and this first empty block
-abbrev pub look_of : Answer → List ℕ → List ℕ → ℕ → Look
-look_of answer places weights e =
-    record { answer = answer; batch = 0; places = places; slots = replicate most_bits 0; weights = weights; free = e; free_slot = 0; free_weight = 0 }
+-- block j, of this weight; at stage 0 no index block goes with it
+abbrev pub block_at : ℕ → ℕ → Looked.Place
+block_at j weight = record { block = j; slot = 0; weight = weight }
+
+-- the look of stage 0 with this answer, these blocks of the bits, and this first empty block
+abbrev pub look_of : Answer → List (Option Looked.Place) → Option Looked.Place → Look
+look_of answer bits e = record { answer = answer; batch = 0; bits = bits; free = e }
 
 -- what a scan says of the m blocks: Done, of stage 0, where they keep the rules, else BadSheet; and where they do, the first empty block and every bit's block and weight
 pub record Scanned (k L m : ℕ) (xs : List ℕ) (r : Look) : Type 0 where
   pub answer : r.answer ≡ pick (blocks_ok? k L m xs) (Done 0) BadSheet
-  pub first : BlocksOk k L m xs → Place (λ j. IsEmpty (states k L xs j)) m m r.free
-  pub bits : BlocksOk k L m xs → (i : ℕ) → i < k → Held (states k L xs) i m m (get_or r.places i 0) (get_or r.weights i 0)
+  pub first : BlocksOk k L m xs → First (λ j. IsEmpty (states k L xs j)) m (block_found r.free)
+  pub bits : BlocksOk k L m xs → (i : ℕ) → i < k → Held (states k L xs) i m (get_or r.bits i None)
 
--- the plan that a scan of m blocks gives for a change of bit i: the next step of its block, or else of the first empty one
-abbrev pub plan_in : Look → ℕ → ℕ → Plan
-plan_in s i m =
-    pick (dec_lt (get_or s.places i 0) m) (Step (get_or s.places i 0) (get_or s.weights i 0))
-    (pick (dec_lt s.free m) (Step s.free 0) Nowhere)
+-- a step of the block that a bit has, or else a new one of an empty block; or no place
+abbrev pub step_in : Option Looked.Place → Option Looked.Place → Plan
+step_in (Some p) e = Step p.block p.weight
+step_in None (Some p) = Step p.block 0
+step_in None None = Nowhere
+
+-- the plan that a scan gives for a change of bit i: the next step of its block, or else of the first empty one
+abbrev pub plan_in : Look → ℕ → Plan
+plan_in s i = step_in (get_or s.bits i None) s.free
 
 -- what a plan means for the change of bit i: a block takes its next step from the weight that it has on the bit's cycle, or there is no place
 pub data PlaceOf (k L m i : ℕ) (xs : List ℕ) : Plan → Type 0 where
   step : (j v : ℕ) → j < m → v < k * L → block k xs j ≡ cycle k L i v → change k L m i xs ≡ done (store k xs j (cycle k L i (v + 1))) → PlaceOf k L m i xs (Step j v)
   erase : change k L m i xs ≡ no_place_left → PlaceOf k L m i xs Nowhere
 
--- the values of k bits, from their weights
-abbrev pub parities : ℕ → List ℕ → List ℕ
-parities k ws = tabulate k (λ i. get_or ws i 0 % 2)
+-- the values of k bits, from their blocks
+abbrev pub parities : ℕ → List (Option Looked.Place) → List ℕ
+parities k bits = tabulate k (value_in bits)
 
 -- ---- the whole sheet
 

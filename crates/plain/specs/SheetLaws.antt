@@ -1,5 +1,5 @@
 -- Laws of a whole plain sheet: check 6 by the scan and the spare cells, and the plan of a change. Assumes nothing.
-use Rattle.std.specs.Prelude.{◌≡◌, refl, Bool, true, false, List, ℕ, ◌-◌, ◌*◌, ◌≤◌, ◌<◌, length, take, drop, replicate}
+use Rattle.std.specs.Prelude.{◌≡◌, refl, Bool, true, false, List, ℕ, ◌-◌, ◌*◌, ◌≤◌, ◌<◌, length, take, drop, replicate, Option}
 use Rattle.std.proofs.Common.{sym, ap, ◌∙◌, subst, arith, length-drop, take_all}
 use Rattle.rules.specs.Search.{pick}
 use Rattle.rules.specs.SearchLaws.{pick_no, pick_yes}
@@ -13,6 +13,7 @@ use Rattle.laws.specs.Kinds.{plain-sound, sound-plain, plain-read, plain-change}
 use Rattle.cells.specs.Laws.{test-true, test-false}
 use Rattle.plan.specs.Meaning.{Levelled, Planned, breaks, keeps}
 use Rattle.plan.specs.declared.Look.{Look}
+use Rattle.plan.specs.declared.Place.{Place}
 use Rattle.plan.specs.declared.Plan.{Plan}
 use Rattle.plain.specs.Laws.{block-end, scanned-place, scanned-read}
 use Rattle.plain.specs.Meaning.{PlaceOf, PlainLook, Scanned, SeenPlain, erase, plan_in, step}
@@ -57,11 +58,11 @@ plain-look r p f b z h = go (blocks_ok? r.k r.top r.m f)
         (refl, record { passed = e; blocks = h; spare = z })
     go (no n) = breaks (h.answer ∙ pick_no (blocks_ok? r.k r.top r.m f) (Done 0) BadSheet n) (λ q. n (plain-sound r p f q).0)
 
-module _ (r : Settings) (f : List ℕ) (p : PlainFacts r) (v : Levelled r f) (b : Look) (h : SeenPlain r f b) (i : ℕ) (l : i < r.k) (d : ℕ) (ws : List ℕ) where
+module _ (r : Settings) (f : List ℕ) (p : PlainFacts r) (v : Levelled r f) (b : Look) (h : SeenPlain r f b) (i : ℕ) (l : i < r.k) (d : ℕ) (bits : List (Option Place)) where
   inside : r.m * r.k ≤ length f
   inside = subst (λ (n : ℕ). r.m * r.k ≤ n) (sym v.long) p.inside
 
-  planned-from : {y : Plan} → PlaceOf r.k r.top r.m i f y → Planned r f i d ws y
+  planned-from : {y : Plan} → PlaceOf r.k r.top r.m i f y → Planned r f i d bits y
   planned-from (step j w n q c e) = record {
     fits = record { place = block-end r.k r.m j (length f) inside n; below = q; cells = c };
     made = plain-change r p f i ∙ e;
@@ -69,7 +70,5 @@ module _ (r : Settings) (f : List ℕ) (p : PlainFacts r) (v : Levelled r f) (b 
   planned-from (erase e) = record { fits = tt; made = plain-change r p f i ∙ e }
 
   -- the plan that the look gives is one of the change
-  pub plain-planned : (m : ℕ) → m ≡ r.m → Planned r f i d ws (plan_in b i m)
-  plain-planned m e =
-      subst (λ (x : ℕ). Planned r f i d ws (plan_in b i x)) (sym e)
-      (planned-from (scanned-place r.k r.top r.m i f b p.bits-least p.top_least inside l h.blocks (ap as_check h.passed)))
+  pub plain-planned : Planned r f i d bits (plan_in b i)
+  plain-planned = planned-from (scanned-place r.k r.top r.m i f b p.bits-least p.top_least inside l h.blocks (ap as_check h.passed))

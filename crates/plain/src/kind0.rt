@@ -1,21 +1,40 @@
-// Check 6 of a plain sheet. Assumes accepted settings of kind 0 and checks 2 to 5 passed.
+// Plain settings, and check 6 of a plain sheet. Assumes checks 2 to 5 passed.
+ghost use Rattle.std.specs.Prelude.{◌≡◌};
 ghost use Rattle.rules.specs.AcceptLaws.{PlainFacts};
-ghost use Rattle.plan.specs.Meaning.{Levelled, Sized};
+ghost use Rattle.plan.specs.Meaning.{Levelled};
 ghost use Rattle.plain.specs.Meaning.{PlainLook};
 
 use crate::scan_blocks;
 use cells::all_zero;
-use plan::{Look, Sizes, unseen};
+use cells::blocks::Blocks;
+use plan::{Look, unseen};
 use rules::{Answer, Settings};
 
-// Check 6: the spare cells are 0, and the blocks keep the rules.
-pub fn look_plain(settings: Settings, sizes: Sizes, sheet: &[u8]) -> Look
-    requires { PlainFacts settings × Levelled settings sheet.now × Sized settings sizes }
-    ensures { PlainLook settings sheet.now result }
-{
-    let a = sizes.blocks * settings.k;
-    if !all_zero(&sheet[a..]) {
-        return unseen(Answer::BadSheet);
+// Accepted settings of kind 0, with the number of blocks, which their method gave once for the call.
+#[derive(Clone, Copy)]
+pub struct PlainSettings {
+    pub settings: Settings,
+    pub blocks: usize,
+    pub ghost plain: { PlainFacts settings },
+    pub ghost has_blocks: { blocks ≡ settings.m },
+}
+
+impl PlainSettings {
+    // Check 6: the spare cells are 0, and the blocks keep the rules.
+    pub fn look(self, sheet: &[u8]) -> Look
+        requires { Levelled self.settings sheet.now }
+        ensures { PlainLook self.settings sheet.now result }
+    {
+        let settings = self.settings;
+        let a = self.blocks * settings.k;
+        if !all_zero(&sheet[a..]) {
+            return unseen(Answer::BadSheet);
+        }
+        scan_blocks(Blocks {
+            cells: sheet,
+            len: settings.k,
+            count: self.blocks,
+            top: settings.top as u8,
+        })
     }
-    scan_blocks(sheet, settings.k, settings.top as u8, sizes.blocks)
 }

@@ -9,71 +9,38 @@ ghost use Rattle.rules.specs.Cells.{Low, sum};
 ghost use Rattle.rules.specs.Plain.{states};
 ghost use Rattle.cells.specs.Meaning.{run};
 ghost use Rattle.block.specs.Meaning.{as_state};
-ghost use Rattle.plain.specs.Meaning.{EmptyFrom, Scanned, closing, differing, look_of, parities, plan_in};
+ghost use Rattle.plain.specs.Meaning.{EmptyFrom, Scanned, block_at, closing, differing, parities, plan_in};
 
 use block::BlockState;
-use cells::{all_zero, past_run, run_blocks};
-use plan::{Look, Plan, unseen};
+use block::states::States;
+use cells::all_zero;
+use cells::blocks::Blocks;
+use plan::{Look, Place, Plan, unseen, value_of};
 use rules::{Answer, MOST_BITS};
 
-// The look at the blocks, of stage 0: the first empty block, or m; each bit's block, or m, and its weight.
-fn look_of(answer: Answer, places: [u16; MOST_BITS], weights: [u16; MOST_BITS], free: usize) -> Look
-    ensures { result ≡ look_of answer places weights free }
+// Whether the bits noted differ: each is held against every earlier one, and both loops are left at the first that an earlier one equals.
+fn check_repeats(noted: &[u8]) -> Answer
+    ensures { result ≡ differing noted.now }
 {
-    Look {
-        answer,
-        batch: 0,
-        places,
-        slots: [0; MOST_BITS],
-        weights,
-        free,
-        free_slot: 0,
-        free_weight: 0,
-    }
-}
-
-// Whether the first n bits differ: each is held against every earlier one, and both loops are left at the first that an earlier one equals.
-fn check_repeats(bits: [u8; MOST_BITS + 1], n: usize) -> Answer
-    requires { (n ≤ most_bits + 1) × (length bits ≡ most_bits + 1) }
-    ensures { result ≡ differing (take n bits) }
-{
-    let mut later: usize = 0;
-    'pairs: while later < n {
-        let mut earlier: usize = 0;
-        while earlier < later {
-            if bits[earlier] == bits[later] {
+    let mut answer = Answer::Done(0);
+    'pairs: for (later, bit) in noted.iter().enumerate() {
+        for earlier in &noted[..later] {
+            if earlier == bit {
+                answer = Answer::BadSheet;
                 break 'pairs;
             }
-            earlier += 1;
         }
-        later += 1;
     }
-    if later < n {
-        return Answer::BadSheet;
-    }
-    Answer::Done(0)
-}
-
-// The state of block j.
-fn state_at(cells: &[u8], k: usize, top: u8, j: usize) -> BlockState
-    requires in_bounds { (2 ≤ k) × (k ≤ most_bits) × (1 ≤ top) × (j * k + k ≤ length cells.now) × (length cells.now ≤ 65536) }
-    requires low { Low top cells.now }
-    ensures { as_state result ≡ states k top cells.now j }
-{
-    let a = j * k;
-    let e = a + k;
-    block::state_of(&cells[a..e], top)
+    answer
 }
 
 // Whether every block from a number on is empty: past runs of zeros, the cells that are left are all 0. Where all is 0 these are few.
-fn rest_empty(cells: &[u8], k: usize, step: usize, from: usize, m: usize) -> bool
-    requires { (1 ≤ k) × (step ≡ run / k) × (from ≤ m) × (m * k ≤ length cells.now) × (length cells.now ≤ 65536) }
-    ensures { (result ≡ true → EmptyFrom k cells.now from m) × (result ≡ false → ¬ (EmptyFrom k cells.now from m)) }
+fn rest_empty(blocks: Blocks, step: usize, from: usize) -> bool
+    requires { (step ≡ run / blocks.len) × (from ≤ blocks.count) }
+    ensures { (result ≡ true → EmptyFrom blocks.entry.len blocks.entry.cells.now from blocks.entry.count) × (result ≡ false → ¬ (EmptyFrom blocks.entry.len blocks.entry.cells.now from blocks.entry.count)) }
 {
-    let j = past_run(cells, k, step, m, from, 0);
-    let a = j * k;
-    let e = m * k;
-    all_zero(&cells[a..e])
+    let j = blocks.past_run(step, from, 0);
+    all_zero(&blocks.cells[j * blocks.len..blocks.count * blocks.len])
 }
 
 // The answer given, unless k bits are noted and the last block in use is full.
@@ -86,80 +53,83 @@ fn check_last(full: bool, n: usize, k: usize, given: Answer) -> Answer
     given
 }
 
-// One pass over the blocks: those in use one by one, full ones in runs, and at the first empty one all that come after it; then the search for a repeat.
-// k + 1 bits below k can't all differ, so no more are noted.
-pub fn scan_blocks(cells: &[u8], k: usize, top: u8, m: usize) -> Look
-    requires in_bounds { (2 ≤ k) × (k ≤ most_bits) × (1 ≤ top) × (m * k ≤ length cells.now) × (length cells.now ≤ 65536) }
-    requires low { Low top cells.now }
-    ensures { Scanned k top m cells.now result }
+// Block j, of this weight; at stage 0 no index block goes with it.
+fn block_at(j: usize, weight: usize) -> Place
+    requires { (j < 65536) × (weight < 65536) }
+    ensures { result ≡ block_at j weight }
 {
-    let step = run_blocks(k);
-    let mut free = m;
-    let mut places = [m as u16; MOST_BITS];
-    let mut weights = [0u16; MOST_BITS];
-    let mut bits = [0u8; MOST_BITS + 1];
+    Place {
+        block: j as u16,
+        slot: 0,
+        weight: weight as u16,
+    }
+}
+
+// One pass over the blocks: those in use with their states, and at the first empty one all that come after it; then the search for a repeat.
+// k + 1 bits below k can't all differ, so no more are noted.
+pub fn scan_blocks(blocks: Blocks) -> Look
+    requires { (2 ≤ blocks.len) × (blocks.len ≤ most_bits) × (1 ≤ blocks.top) }
+    ensures { Scanned blocks.entry.len blocks.entry.top blocks.entry.count blocks.entry.cells.now result }
+{
+    let states = States::of(blocks);
+    let mut bits = [None; MOST_BITS];
+    let mut free = None;
+    let mut noted = [0u8; MOST_BITS + 1];
     let mut n: usize = 0;
     let mut full = false;
-    let mut next: usize = 0;
-    while next < m && n <= k {
-        let j = next;
-        next += 1;
-        match state_at(cells, k, top, j) {
-            BlockState::Full => {
-                full = true;
-                next = past_run(cells, k, step, m, next, top);
-                continue;
-            }
+    for (j, state) in states {
+        match state {
+            BlockState::Full => full = true,
             BlockState::Empty => {
-                if !rest_empty(cells, k, step, next, m) {
+                if !rest_empty(blocks, states.step, j + 1) {
                     return unseen(Answer::BadSheet);
                 }
-                free = j;
-                next = m;
-                continue;
+                free = Some(block_at(j, 0));
+                break;
             }
             BlockState::Broken => return unseen(Answer::BadSheet),
-            BlockState::Active(bit, weight) => {
+            BlockState::Active { bit, weight } => {
                 full = false;
-                bits[n] = bit as u8;
+                noted[n] = bit as u8;
                 n += 1;
-                places[bit] = j as u16;
-                weights[bit] = weight as u16;
+                bits[bit] = Some(block_at(j, weight));
+                if blocks.len < n {
+                    break;
+                }
             }
         }
     }
-    let answer = check_last(full, n, k, check_repeats(bits, n));
-    look_of(answer, places, weights, free)
+    Look {
+        answer: check_last(full, n, blocks.len, check_repeats(&noted[..n])),
+        batch: 0,
+        bits,
+        free,
+    }
 }
 
 // The plan of a change among the blocks: the next step of the bit's block, or else of the lowest-numbered empty one; or no place.
-pub fn plan_blocks(look: Look, bit: usize, blocks: usize) -> Plan
+pub fn plan_blocks(look: &Look, bit: usize) -> Plan
     requires { bit < most_bits }
-    ensures { result ≡ plan_in look bit blocks }
+    ensures { result ≡ plan_in look.now bit }
 {
-    let own = look.places[bit] as usize;
-    if own < blocks {
-        return Plan::Step(own, look.weights[bit] as usize);
+    match (look.bits[bit], look.free) {
+        (Some(own), _) => Plan::Step(own.block as usize, own.weight as usize),
+        (None, Some(empty)) => Plan::Step(empty.block as usize, 0),
+        (None, None) => Plan::Nowhere,
     }
-    if look.free < blocks {
-        return Plan::Step(look.free, 0);
-    }
-    Plan::Nowhere
 }
 
-// The first k places set to the parities of the weights; how many are 1.
-pub fn write_bits(out: &mut [u8], k: usize, weights: [u16; MOST_BITS]) -> usize
+// The first k places set to the values of the bits; how many are 1.
+pub fn write_bits(out: &mut [u8], k: usize, bits: &[Option<Place>; MOST_BITS]) -> usize
     requires { (k ≤ most_bits) × (k ≤ length out.old) }
-    ensures ones { result ≡ sum (parities k weights) }
-    ensures places { out.new ≡ parities k weights ++ drop k out.old }
+    ensures ones { result ≡ sum (parities k bits.now) }
+    ensures places { out.new ≡ parities k bits.now ++ drop k out.old }
 {
     let mut ones: usize = 0;
-    let mut i: usize = 0;
-    while i < k {
-        let value = weights[i] % 2;
-        out[i] = value as u8;
-        ones += value as usize;
-        i += 1;
+    for (i, bit) in bits[..k].iter().enumerate() {
+        let value = value_of(*bit);
+        out[i] = value;
+        ones += usize::from(value);
     }
     ones
 }

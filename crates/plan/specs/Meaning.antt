@@ -1,7 +1,7 @@
--- What the sizes of a sheet, the look at it, the plan of a change and its need mean, for every kind. Assumes nothing.
-use Rattle.std.specs.Prelude.{◌≢◌, ◌≡◌, List, ◌++◌, ℕ, zero, suc, ◌+◌, ◌-◌, ◌*◌, ◌%◌, ◌^◌, ◌≤◌, ◌<◌, length, get_or, take, drop, replicate}
+-- What the look at a sheet, the plan of a change and its need mean, for every kind. Assumes nothing.
+use Rattle.std.specs.Prelude.{◌≢◌, ◌≡◌, List, ◌++◌, ℕ, zero, suc, ◌+◌, ◌-◌, ◌*◌, ◌%◌, ◌^◌, ◌≤◌, ◌<◌, length, get_or, take, drop, replicate, Option, Some, None}
 use Rattle.laws.specs.Splice.{part, spliced}
-use Rattle.rules.specs.Accept.{Genuine, block_count, most_bits, width_of}
+use Rattle.rules.specs.Accept.{most_bits}
 use Rattle.rules.specs.Batches.{batch, digits, write}
 use Rattle.rules.specs.Block.{cycle}
 use Rattle.rules.specs.Calls.{Outcome, Sound, change_sheet, changing, check_sheet, read_bit}
@@ -15,21 +15,11 @@ use Rattle.rules.specs.declared.Answer.TheVariants.{BadSheet, Done}
 use Rattle.rules.specs.declared.Settings.{Settings}
 use Rattle.plan.specs.declared.Look.{Look}
 use Rattle.plan.specs.declared.Need.{Need}
+use Rattle.plan.specs.declared.Place.{Place}
 use Rattle.plan.specs.declared.Plan.{Plan}
 use Rattle.plan.specs.declared.Plan.TheVariants.{Close, Move, Nowhere, Raise, Step, Take}
-use Rattle.plan.specs.declared.Sizes.{Sizes}
 
 -- ---- the sheet before a look
-
--- the sizes that a call takes of its settings
-abbrev pub sizes_of : Settings → Sizes
-sizes_of r = record { blocks = block_count r; width = width_of r }
-
--- the sizes of accepted settings
-pub record Sized (r : Settings) (z : Sizes) : Type 0 where
-  pub genuine : Genuine r
-  pub blocks : z.blocks ≡ r.m
-  pub width : z.width ≡ r.w
 
 -- a sheet of n cells with no level above L: checks 2 and 5 have passed
 pub record Levelled (r : Settings) (f : List ℕ) : Type 0 where
@@ -40,12 +30,21 @@ pub record Levelled (r : Settings) (f : List ℕ) : Type 0 where
 
 -- a look at nothing, with an answer
 abbrev pub unseen : Answer → Look
-unseen a = record { answer = a; batch = 0; places = replicate most_bits 0; slots = replicate most_bits 0; weights = replicate most_bits 0; free = 0; free_slot = 0; free_weight = 0 }
+unseen a = record { answer = a; batch = 0; bits = replicate most_bits None; free = None }
 
--- check 6: a sheet that breaks the rules is refused; one that keeps them is at the stage answered, its bits are the parities of the weights found, and the look has Seen it there
+-- the weight of the block that a bit has; 0 where it has none
+abbrev pub weight_in : Option Place → ℕ
+weight_in None = 0
+weight_in (Some p) = p.weight
+
+-- the value of a bit by a look: the parity of its block's weight
+abbrev pub value_in : List (Option Place) → ℕ → ℕ
+value_in bits i = weight_in (get_or bits i None) % 2
+
+-- check 6: a sheet that breaks the rules is refused; one that keeps them is at the stage answered, its bits are the values found, and the look has Seen it there
 pub data LookOf (Seen : ℕ → Type 0) (r : Settings) (f : List ℕ) (b : Look) : Type 0 where
   breaks : b.answer ≡ BadSheet → ¬ (Sound r f) → LookOf Seen r f b
-  keeps : (v : ℕ) → b.answer ≡ Done v → Sound r f → ((i : ℕ) → i < r.k → read_bit r f i ≡ get_or b.weights i 0 % 2) → Seen v → LookOf Seen r f b
+  keeps : (v : ℕ) → b.answer ≡ Done v → Sound r f → ((i : ℕ) → i < r.k → read_bit r f i ≡ value_in b.bits i) → Seen v → LookOf Seen r f b
 
 -- ---- the plan
 
@@ -117,10 +116,10 @@ Fits r f i d (Take j a up) = ParityFits r f d j × IndexFits r a × (up ≤ 1) �
 Fits r f i d (Move e) = MoveFits r f e
 Fits r f i d Nowhere = Unit {0}
 
--- a plan of the change of bit i, at the stage with d left: it fits the sheet, and carried out it is the encoding map's change; a move records the parities of the weights ws, after the change
-pub record Planned (r : Settings) (f : List ℕ) (i d : ℕ) (ws : List ℕ) (p : Plan) : Type 0 where
+-- a plan of the change of bit i, at the stage with d left: it fits the sheet, and carried out it is the encoding map's change; a move records the values that the look found, after the change
+pub record Planned (r : Settings) (f : List ℕ) (i d : ℕ) (bits : List (Option Place)) (p : Plan) : Type 0 where
   pub fits : Fits r f i d p
-  pub made : change_sheet r f i ≡ carried_out r i d (after i (λ y. get_or ws y 0 % 2)) f p
+  pub made : change_sheet r f i ≡ carried_out r i d (after i (value_in bits)) f p
 
 -- ---- the need
 

@@ -1,30 +1,27 @@
-// The values that a call passes on: the sizes of a sheet, the look at it, the plan of a change and what that needs. Assumes nothing.
+// The values that a call passes on: the look at a sheet, the plan of a change and what that needs. Assumes nothing.
 #![tactic(auto)]
 
-ghost use Rattle.std.specs.Prelude.{◌≡◌};
-ghost use Rattle.plan.specs.Meaning.{unseen};
+ghost use Rattle.std.specs.Prelude.{◌≡◌, ◌%◌};
+ghost use Rattle.plan.specs.Meaning.{unseen, weight_in};
 
 use rules::{Answer, MOST_BITS};
 
-// The number of blocks and the width of an index block, taken once for each call; 0 for a record that acceptance never gives.
+// A block: its number, its weight, and, at stages from 1 up, the number of its index block.
 #[derive(Clone, Copy)]
-pub struct Sizes {
-    pub blocks: usize,
-    pub width: usize,
+pub struct Place {
+    pub block: u16,
+    pub slot: u8,
+    pub weight: u16,
 }
 
 // What the checks of a sheet find: the first refusal, or Done with the stage that the sheet is in; the first cell of the stage's batch;
-// and for each bit, and for the first block that no bit has, the block, its index block and its weight. The number of blocks stands for none.
+// for each bit the block that it has, and the first block that no bit has.
 #[derive(Clone, Copy)]
 pub struct Look {
     pub answer: Answer,
     pub batch: usize,
-    pub places: [u16; MOST_BITS],
-    pub slots: [u8; MOST_BITS],
-    pub weights: [u16; MOST_BITS],
-    pub free: usize,
-    pub free_slot: usize,
-    pub free_weight: usize,
+    pub bits: [Option<Place>; MOST_BITS],
+    pub free: Option<Place>,
 }
 
 // What a change comes to, in numbers: a block of k cells takes its next step, from this weight; a parity block is raised by one;
@@ -54,11 +51,14 @@ pub fn unseen(answer: Answer) -> Look
     Look {
         answer,
         batch: 0,
-        places: [0; MOST_BITS],
-        slots: [0; MOST_BITS],
-        weights: [0; MOST_BITS],
-        free: 0,
-        free_slot: 0,
-        free_weight: 0,
+        bits: [None; MOST_BITS],
+        free: None,
     }
+}
+
+// A bit's value: the parity of its block's weight, 0 where it has none.
+pub fn value_of(bit: Option<Place>) -> u8
+    ensures { result ≡ weight_in bit % 2 }
+{
+    bit.map_or(0, |place| (place.weight % 2) as u8)
 }

@@ -1,6 +1,6 @@
 -- Laws of a record's tests and of its work. Assumes nothing.
-use Rattle.std.specs.Prelude.{◌≡◌, refl, List, ◌++◌, ℕ, zero, suc, ◌≤◌, length, get_or, take, drop}
-use Rattle.std.proofs.Common.{sym, ap, ◌∙◌, le_refl, not-suc-le-zero, arith, drop_of_length-le, take_all, length-take-le}
+use Rattle.std.specs.Prelude.{◌≡◌, refl, ◌↔◌, List, ◌++◌, ℕ, zero, suc, ◌≤◌, length, get_or, take, drop}
+use Rattle.std.proofs.Common.{sym, ap, ap₂, ◌∙◌, le_refl, not-suc-le-zero, arith, drop_of_length-le, take_all, length-take-le}
 use Rattle.std.proofs.Math.Decide.{ℕ_discrete, dec_le, dec_lt}
 use Rattle.std.proofs.Math.Seq.{take-length, drop-length}
 use Rattle.rules.specs.SearchLaws.{pick-elim}
@@ -8,11 +8,11 @@ use Rattle.rules.specs.Answer.{number_of, value_of}
 use Rattle.rules.specs.Calls.{Check, Pass, Refuse, ask, and_then, Outcome, erase_call, change_call}
 use Rattle.rules.specs.Promises.{Gives, ErasePromise, ChangePromise}
 use Rattle.rules.specs.PromiseLaws.{gives, outcome-is}
-use Rattle.rules.specs.Records.{operation, kind_asked, bits_asked, top_asked, cells_asked, bit_named, check_form, check_unused, check_held, Step, passed, by_operation, record_step, held_after, erase_step, change_step, read_step}
+use Rattle.rules.specs.Records.{operation, kind_asked, bits_asked, top_asked, cells_asked, bit_named, check_form, check_unused, check_held, Step, keep, passed, by_operation, record_step, held_after, erase_step, change_step, read_step}
 use Rattle.rules.specs.declared.Settings.{Settings}
 use Rattle.rules.specs.declared.Answer.{Answer}
 use Rattle.rules.specs.declared.Answer.TheVariants.{BadRecord}
-use Rattle.records.specs.Meaning.{step_of, Form, HeldFacts, check_use, check_record, asked, work, Front}
+use Rattle.records.specs.Meaning.{step_of, Form, HeldFacts, SameAsked, check_use, check_record, asked, work, Front}
 
 -- ---- tests that answer BadRecord
 
@@ -125,6 +125,61 @@ then-first (Refuse a) d e = e
 -- a record that passes every test has its form
 pub record-form : (rec : List ℕ) (r : Settings) → check_record rec r ≡ Pass → Form rec
 record-form rec r e = tested-passed (form-tested rec) (then-first (check_form rec) (check_use (operation rec) rec r) e)
+
+-- ---- what a record asks for
+
+-- the settings that a record names, its cells however they were worked out, are those of the sheet held
+pub held-asked : (rec : List ℕ) (r : Settings) {n : ℕ} → n ≡ cells_asked rec → SameAsked (kind_asked rec) (bits_asked rec) (top_asked rec) n r ↔ HeldFacts rec r
+held-asked rec r e = (λ h. record { held = h.0; kind = h.1; bits = h.2; top = h.3; cells = sym e ∙ h.4 }, λ h. (h.held, h.kind, h.bits, h.top, e ∙ h.cells))
+
+module _ (rec : List ℕ) (r : Settings) where
+  -- a record that breaks its form is refused
+  pub not-formed : ¬ (Form rec) → (xs : List ℕ) → record_step rec r xs ≡ keep r xs BadRecord
+  not-formed h xs = record-first rec r xs (ap (λ (c : Check). and_then c (check_use (operation rec) rec r)) (tested-broken (form-tested rec) h))
+
+  -- eight bytes of a known operation, the last of them 0, keep it, and then the operation's own tests decide
+  formed : {op : ℕ} → length rec ≡ 8 → get_or rec 7 0 ≡ 0 → operation rec ≡ op → 1 ≤ op → op ≤ 3 → (xs : List ℕ) → record_step rec r xs ≡ passed (check_use op rec r) r xs (work op rec r xs)
+  formed w l e a b xs =
+      let f : Form rec = record { whole = w; least = omega arith; most = omega arith; last = l } in
+      record-first rec r xs (ap (λ (c : Check). and_then c (check_use (operation rec) rec r)) (tested-kept (form-tested rec) f))
+      ∙ ap (λ (op : ℕ). passed (check_use op rec r) r xs (work op rec r xs)) e
+
+  -- operation 1 with no bit
+  pub erases : length rec ≡ 8 → get_or rec 7 0 ≡ 0 → operation rec ≡ 1 → bit_named rec ≡ 0 → (xs : List ℕ) → record_step rec r xs ≡ erase_step (asked rec) r xs
+  erases w l e z xs =
+      formed w l e (omega arith) (omega arith) xs ∙ ap (λ (c : Check). passed c r xs (erase_step (asked rec) r xs)) (tested-kept (unused-tested rec) z)
+
+  -- and with one
+  pub erase-refused : length rec ≡ 8 → get_or rec 7 0 ≡ 0 → operation rec ≡ 1 → ¬ (bit_named rec ≡ 0) → (xs : List ℕ) → record_step rec r xs ≡ keep r xs BadRecord
+  erase-refused w l e z xs =
+      formed w l e (omega arith) (omega arith) xs ∙ ap (λ (c : Check). passed c r xs (erase_step (asked rec) r xs)) (tested-broken (unused-tested rec) z)
+
+  -- operation 2 on the sheet held
+  pub changes : length rec ≡ 8 → get_or rec 7 0 ≡ 0 → operation rec ≡ 2 → HeldFacts rec r → (xs : List ℕ) → record_step rec r xs ≡ change_step r xs (bit_named rec)
+  changes w l e h xs =
+      formed w l e (omega arith) (omega arith) xs ∙ ap (λ (c : Check). passed c r xs (change_step r xs (bit_named rec))) (tested-kept (held-tested rec r) h)
+
+  -- and on another
+  pub change-refused : length rec ≡ 8 → get_or rec 7 0 ≡ 0 → operation rec ≡ 2 → ¬ (HeldFacts rec r) → (xs : List ℕ) → record_step rec r xs ≡ keep r xs BadRecord
+  change-refused w l e h xs =
+      formed w l e (omega arith) (omega arith) xs ∙ ap (λ (c : Check). passed c r xs (change_step r xs (bit_named rec))) (tested-broken (held-tested rec r) h)
+
+  -- operation 3 with no bit, on the sheet held
+  pub reads : length rec ≡ 8 → get_or rec 7 0 ≡ 0 → operation rec ≡ 3 → bit_named rec ≡ 0 → HeldFacts rec r → (xs : List ℕ) → record_step rec r xs ≡ read_step r xs
+  reads w l e z h xs =
+      formed w l e (omega arith) (omega arith) xs
+      ∙ ap₂ (λ (c d : Check). passed (and_then c d) r xs (read_step r xs)) (tested-kept (unused-tested rec) z) (tested-kept (held-tested rec r) h)
+
+  -- with a bit
+  pub read-refused : length rec ≡ 8 → get_or rec 7 0 ≡ 0 → operation rec ≡ 3 → ¬ (bit_named rec ≡ 0) → (xs : List ℕ) → record_step rec r xs ≡ keep r xs BadRecord
+  read-refused w l e z xs =
+      formed w l e (omega arith) (omega arith) xs ∙ ap (λ (c : Check). passed (and_then c (check_held rec r)) r xs (read_step r xs)) (tested-broken (unused-tested rec) z)
+
+  -- and on another
+  pub read-other-refused : length rec ≡ 8 → get_or rec 7 0 ≡ 0 → operation rec ≡ 3 → bit_named rec ≡ 0 → ¬ (HeldFacts rec r) → (xs : List ℕ) → record_step rec r xs ≡ keep r xs BadRecord
+  read-other-refused w l e z h xs =
+      formed w l e (omega arith) (omega arith) xs
+      ∙ ap₂ (λ (c d : Check). passed (and_then c d) r xs (read_step r xs)) (tested-kept (unused-tested rec) z) (tested-broken (held-tested rec r) h)
 
 -- ---- the cells of a sheet
 

@@ -1,11 +1,13 @@
 -- What the parts of a record's meaning ask for and hand back. Assumes nothing.
-use Rattle.std.specs.Prelude.{◌≡◌, List, ℕ, zero, suc, ◌≤◌, ◌<◌, length, get_or, take, drop}
+use Rattle.std.specs.Prelude.{◌≡◌, Option, Some, None, List, ℕ, zero, suc, ◌≤◌, ◌<◌, length, get_or, take, drop}
 use Rattle.rules.specs.Accept.{accept}
 use Rattle.rules.specs.Calls.{Check, Refuse, and_then}
 use Rattle.rules.specs.Records.{operation, kind_asked, bits_asked, top_asked, cells_asked, bit_named, check_form, check_unused, check_held, Step, keep, erase_step, change_step, read_step}
 use Rattle.rules.specs.declared.Settings.{Settings}
 use Rattle.rules.specs.declared.Setup.{Setup}
 use Rattle.rules.specs.declared.Answer.TheVariants.{BadRecord}
+use Rattle.records.specs.declared.Operation.{Operation}
+use Rattle.records.specs.declared.Operation.TheVariants.{Erase, Change, Read}
 
 -- what a record answers and the settings then held, with the cells after it
 abbrev pub step_of : Setup → List ℕ → Step
@@ -27,6 +29,10 @@ pub record HeldFacts (rec : List ℕ) (r : Settings) : Type 0 where
   pub bits : bits_asked rec ≡ r.k
   pub top : top_asked rec ≡ r.top
   pub cells : cells_asked rec ≡ r.n
+
+-- a sheet is held, and these are its settings
+abbrev pub SameAsked : ℕ → ℕ → ℕ → ℕ → Settings → Type 0
+SameAsked kind k L n r = (0 < r.k) × (kind ≡ r.kind) × (k ≡ r.k) × (L ≡ r.top) × (n ≡ r.n)
 
 -- ---- a record's tests apart from its work
 
@@ -51,6 +57,13 @@ work zero rec r xs = keep r xs BadRecord
 work (suc zero) rec r xs = erase_step (asked rec) r xs
 work (suc (suc zero)) rec r xs = change_step r xs (bit_named rec)
 work (suc (suc (suc op))) rec r xs = read_step r xs
+
+-- what is asked for, done; where there is no operation the record is refused
+abbrev pub asked_step : Option Operation → Settings → List ℕ → Step
+asked_step (Some (Erase new)) r xs = erase_step new r xs
+asked_step (Some (Change i)) r xs = change_step r xs i
+asked_step (Some Read) r xs = read_step r xs
+asked_step None r xs = keep r xs BadRecord
 
 -- ---- the cells of a sheet
 

@@ -1,11 +1,14 @@
 -- Laws of acceptance: what accepted settings keep, and which records acceptance gives. Assumes nothing.
-use Rattle.std.specs.Prelude.{◌≡◌, refl, true, false, ◌⊎◌, ◌↔◌, ℕ, zero, suc, ◌+◌, ◌-◌, ◌*◌, ◌/◌, ◌%◌, ◌^◌, ◌≤◌, ◌<◌}
-use Rattle.std.proofs.Common.{sym, subst, ◌∙◌, true≢false, inl, inr, ⊎_elim, not-suc-le-zero, div-mul-le_self, arith, pow_mono}
+use Rattle.std.specs.Prelude.{◌≡◌, refl, Bool, true, false, Option, Some, None, ◌⊎◌, ◌↔◌, ℕ, zero, suc, ◌+◌, ◌-◌, ◌*◌, ◌/◌, ◌%◌, ◌^◌, ◌≤◌, ◌<◌}
+use Rattle.std.specs.Bool.{then_some}
+use Rattle.std.proofs.lemmas.Option.{none-some, same_Some}
+use Rattle.std.proofs.Common.{sym, ap, subst, ◌∙◌, true≢false, inl, inr, ⊎_elim, not-suc-le-zero, div-mul-le_self, arith, pow_mono}
 use Rattle.std.proofs.Math.Decide.{ℕ_discrete, dec_le, dec_lt}
 use Rattle.rules.specs.Search.{pick, both?}
-use Rattle.rules.specs.SearchLaws.{pick-elim, pick_no}
+use Rattle.rules.specs.SearchLaws.{pick-elim, pick_yes, pick_no}
 use Rattle.rules.specs.Batches.{index_cells}
 use Rattle.rules.specs.Accept.{most_bits, most_top, most_cells, most_stages, refused, require, accept_plain, stages_of, index_width, staged_room, accept_staged, accept, again, Genuine, same_settings?, genuine?}
+use Rattle.rules.specs.Asked.{if_accepted}
 use Rattle.rules.specs.declared.Settings.{Settings}
 use Rattle.rules.specs.StagesLaws.{stages-is, width-enough, width-least, width-below}
 
@@ -44,6 +47,20 @@ ruled-kept (broken f) h = absurd (f h)
 pub ruled-broken : {A : Type 0} {x r : Settings} → Ruled A x r → ¬ A → r ≡ refused
 ruled-broken (kept a) h = absurd (h a)
 ruled-broken (broken f) h = refl
+
+-- code that answers a record or none: x where the rules are kept
+pub if-kept : {A : Type 0} {x r : Settings} → Ruled A x r → 0 < x.k → A → Some x ≡ if_accepted r
+if-kept {x} w p a = sym (pick_yes (dec_lt 0 x.k) (Some x) None p) ∙ ap if_accepted (sym (ruled-kept w a))
+
+-- and none where they are not
+pub if-broken : {A : Type 0} {x r : Settings} → Ruled A x r → ¬ A → None ≡ if_accepted r
+unfolding dec_lt
+if-broken w h = ap if_accepted (sym (ruled-broken w h))
+
+-- and x by a last test, where that decides
+pub if-tested : {A : Type 0} {x r : Settings} → Ruled A x r → 0 < x.k → (b : Bool) → (b ≡ true → A) → (b ≡ false → ¬ A) → then_some b x ≡ if_accepted r
+if-tested w p true f g = if-kept w p (f refl)
+if-tested w p false f g = if-broken w (g refl)
 
 -- one rule of A tested
 rule : {A B : Type 0} {x r : Settings} (d : Dec B) → (A → B) → (B → Ruled A x r) → Ruled A x (require d r)
@@ -288,6 +305,22 @@ given-genuine (given e₁ e₂ e₃ e₄ f) e h = (h, accept-same e₁ e₂ e₃
 -- so accepted settings give a genuine record
 pub accept-genuine : (kind k L n : ℕ) → 0 < (accept kind k L n).k → Genuine (accept kind k L n)
 accept-genuine kind k L n h = given-genuine (accept-given kind k L n) refl h
+
+-- what acceptance gives and does not refuse is a genuine record, the one that the definition gives
+pub if-genuine : (kind k L n : ℕ) (r : Settings) → Some r ≡ if_accepted (accept kind k L n) → Genuine r × (r ≡ accept kind k L n)
+if-genuine kind k L n r = pick-elim (λ (o : Option Settings). Some r ≡ o → Genuine r × (r ≡ accept kind k L n)) (dec_lt 0 (accept kind k L n).k) (Some (accept kind k L n)) None
+    (λ h e. let q : r ≡ accept kind k L n = same_Some _ _ e in (subst Genuine (sym q) (accept-genuine kind k L n h), q))
+    (λ h e. absurd (none-some r (sym e)))
+
+-- and where it gives none, the record of zeros
+given-refused : {kind k L n : ℕ} {r : Settings} → Given kind k L n r → ¬ (0 < r.k) → r ≡ refused
+given-refused refusal h = refl
+given-refused (given e₁ e₂ e₃ e₄ f) h = absurd (h (⊎_elim (λ p. omega (arith, p.bits-least)) (λ p. omega (arith, (staged-bits _ p).0)) f))
+
+pub if-refused : (kind k L n : ℕ) → None ≡ if_accepted (accept kind k L n) → accept kind k L n ≡ refused
+if-refused kind k L n = pick-elim (λ (o : Option Settings). None ≡ o → accept kind k L n ≡ refused) (dec_lt 0 (accept kind k L n).k) (Some (accept kind k L n)) None
+    (λ h e. absurd (none-some _ e))
+    (λ h e. given-refused (accept-given kind k L n) h)
 
 -- the record of zeros is forged
 pub refused-forged : ¬ (Genuine refused)

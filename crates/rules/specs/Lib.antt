@@ -9,6 +9,7 @@ pub mod Stage
 pub mod Staged
 pub mod Batches
 pub mod Accept
+pub mod Asked
 pub mod StagesLaws
 pub mod AcceptLaws
 pub mod GuaranteeLaws

@@ -1,6 +1,6 @@
 -- Choices, and the first place where a test holds. Assumes nothing.
 use Rattle.std.proofs.Common.{sym, subst, ⊎_elim, le_refl, le_of_suc-le-suc, not-suc-le-zero, eq-or-lt_of_le, arith}
-use Rattle.std.specs.Prelude.{ℕ, zero, suc, ◌<◌}
+use Rattle.std.specs.Prelude.{ℕ, zero, suc, ◌<◌, Option, Some, None}
 
 -- x if A holds, else y
 abbrev pub pick : {A B : Type 0} → Dec A → B → B → B
@@ -51,6 +51,11 @@ some? p (suc m) = some_more m (some? p m) (p m)
 pub data Found : Type 0 where
   at : ℕ → Found
   nowhere : Found
+
+-- the place that code found, or none
+abbrev pub as_found : Option ℕ → Found
+as_found (Some j) = at j
+as_found None = nowhere
 
 -- the first of two places
 abbrev pub or_else : Found → Found → Found

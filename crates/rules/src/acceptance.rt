@@ -1,13 +1,14 @@
 // Settings: accepted once, carried as one record, and asked for what they come to. Assumes nothing.
-ghost use Rattle.std.specs.Prelude.{◌≡◌, true, false, ◌+◌, ◌-◌, ◌*◌, ◌≤◌, ◌<◌};
-ghost use Rattle.rules.specs.Search.{pick};
+ghost use Rattle.std.specs.Prelude.{◌≡◌, ◌+◌, ◌-◌, ◌*◌, ◌≤◌, ◌<◌, ◌↔◌, IsTrue};
+ghost use Rattle.rules.specs.Search.{as_found};
 ghost use Rattle.rules.specs.Batches.{batch_cells, index_cells};
-ghost use Rattle.rules.specs.Accept.{most_bits, most_top, most_stages, accept_plain, stages_of, index_width, accept_staged, Genuine, same_settings?, guarantee};
+ghost use Rattle.rules.specs.Accept.{most_bits, most_top, most_stages, accept_plain, place_of, stages_of, index_width, accept_staged, accept, Genuine, reported, guarantee};
+ghost use Rattle.rules.specs.Asked.{InLimits, if_accepted};
 ghost use Rattle.rules.specs.AcceptLaws.{PlainFacts, StagedFacts};
 ghost use Rattle.rules.specs.Answer.{number_of, value_of};
 ghost use Rattle.rules.specs.Promises.{SettingsPromise, WorkOutPromise, GenuinePromise, GuaranteePromise, BlocksPromise, WidthPromise, BatchStartPromise};
 
-use crate::{Answer, MOST_BITS, REFUSED, Settings, Setup};
+use crate::{Answer, Kind, MOST_BITS, REFUSED, Settings, Setup};
 
 // The s of that many bits.
 const MOST_STAGES: usize = 6;
@@ -23,16 +24,14 @@ impl Settings {
     pub fn accept(kind: usize, k: usize, top: usize, n: usize) -> Setup
         ensures { SettingsPromise kind k top n (number_of result.answer) (value_of result.answer) result.settings }
     {
-        let settings = Settings::work_out(kind, k, top, n);
-        if settings.k == 0 {
+        let Some(settings) = Settings::accepted(kind, k, top, n) else {
             return Setup {
                 answer: Answer::BadShape,
-                settings,
+                settings: REFUSED,
             };
-        }
-        let guarantee = settings.formula();
+        };
         Setup {
-            answer: Answer::Done(guarantee),
+            answer: Answer::Done(settings.formula()),
             settings,
         }
     }
@@ -41,34 +40,31 @@ impl Settings {
     pub fn work_out(kind: usize, k: usize, top: usize, n: usize) -> Settings
         ensures { WorkOutPromise kind k top n result }
     {
-        if kind == 0 {
-            return accept_plain(k, top, n);
-        }
-        if kind == 1 {
-            return accept_staged(k, top, n);
-        }
-        REFUSED
+        Settings::accepted(kind, k, top, n).unwrap_or(REFUSED)
     }
 
-    // Is this a record that acceptance gives? It is worked out again, and every field compared.
+    // The record for any four numbers; none where they are refused.
+    fn accepted(kind: usize, k: usize, top: usize, n: usize) -> Option<Settings>
+        ensures { result ≡ if_accepted (accept kind k top n) }
+    {
+        match Kind::try_from(kind).ok()? {
+            Kind::Plain => accept_plain(k, top, n),
+            Kind::Staged => accept_staged(k, top, n),
+        }
+    }
+
+    // Is this a record that acceptance gives? It is worked out again and compared.
     pub fn genuine(self) -> bool
         ensures { GenuinePromise self result }
     {
-        if self.k == 0 {
-            return false;
-        }
-        let again = Settings::work_out(self.kind, self.k, self.top, self.n);
-        same(again, self)
+        Settings::accepted(self.kind, self.k, self.top, self.n) == Some(self)
     }
 
     // The guarantee; 0 for a record that acceptance never gives.
     pub fn guarantee(self) -> usize
         ensures { GuaranteePromise self result }
     {
-        if self.genuine() {
-            return self.formula();
-        }
-        0
+        if self.genuine() { self.formula() } else { 0 }
     }
 
     // The guarantee of an accepted record.
@@ -76,10 +72,11 @@ impl Settings {
         requires { Genuine self }
         ensures { result ≡ guarantee self }
     {
-        if self.kind == 0 {
-            return self.plain_formula();
+        if self.kind == Kind::Plain as usize {
+            self.plain_formula()
+        } else {
+            self.staged_formula()
         }
-        self.staged_formula()
     }
 
     // Demand 3's formula for kind 0.
@@ -102,36 +99,32 @@ impl Settings {
     pub fn blocks(self) -> usize
         ensures { BlocksPromise self result }
     {
-        if self.genuine() {
-            return self.m;
-        }
-        0
+        self.reported(self.m)
     }
 
     // The cells of an index block; 0 for a plain sheet, and for a record that acceptance never gives.
     pub fn width(self) -> usize
         ensures { WidthPromise self result }
     {
-        if self.genuine() {
-            return self.w;
-        }
-        0
+        self.reported(self.w)
+    }
+
+    // A number of an accepted record; 0 for a record that acceptance never gives.
+    fn reported(self, number: usize) -> usize
+        ensures { result ≡ reported self number }
+    {
+        if self.genuine() { number } else { 0 }
     }
 
     // The first cell of a batch from 1 to s - 1; 0 for any other, and for a record that acceptance never gives.
     pub fn batch_start(self, batch: usize) -> usize
         ensures { BatchStartPromise self batch result }
     {
-        if batch < 1 {
-            return 0;
+        if (1..self.s).contains(&batch) && self.genuine() {
+            self.first_cell(batch)
+        } else {
+            0
         }
-        if self.s <= batch {
-            return 0;
-        }
-        if self.genuine() {
-            return self.first_cell(batch);
-        }
-        0
     }
 
     // Batches stand after the m blocks, one after the other.
@@ -143,123 +136,62 @@ impl Settings {
     }
 }
 
-// Are two records the same in every field?
-fn same(a: Settings, b: Settings) -> bool
-    ensures { result ≡ pick (same_settings? a b) true false }
+// Are k, top and n within the limits of every kind? It is asked before any product.
+fn in_limits(k: usize, top: usize, n: usize) -> bool
+    ensures { IsTrue result ↔ InLimits k top n }
 {
-    if a.kind != b.kind {
-        return false;
-    }
-    if a.k != b.k {
-        return false;
-    }
-    if a.top != b.top {
-        return false;
-    }
-    if a.n != b.n {
-        return false;
-    }
-    if a.m != b.m {
-        return false;
-    }
-    if a.s != b.s {
-        return false;
-    }
-    if a.w != b.w {
-        return false;
-    }
-    true
+    (2..=MOST_BITS).contains(&k) && (1..=MOST_TOP).contains(&top) && n <= MOST_CELLS
 }
 
-// Kind 0: k, top and n are within their limits before any product.
-fn accept_plain(k: usize, top: usize, n: usize) -> Settings
-    ensures { result ≡ accept_plain k top n }
+// Kind 0: kL is even, and there are at least k blocks.
+fn accept_plain(k: usize, top: usize, n: usize) -> Option<Settings>
+    ensures { result ≡ if_accepted (accept_plain k top n) }
 {
-    if k < 2 {
-        return REFUSED;
-    }
-    if MOST_BITS < k {
-        return REFUSED;
-    }
-    if top < 1 {
-        return REFUSED;
-    }
-    if MOST_TOP < top {
-        return REFUSED;
-    }
-    if MOST_CELLS < n {
-        return REFUSED;
-    }
-    if k * top % 2 != 0 {
-        return REFUSED;
+    if !in_limits(k, top, n) || k * top % 2 != 0 {
+        return None;
     }
     let m = n / k;
-    if m < k {
-        return REFUSED;
-    }
-    Settings {
-        kind: 0,
+    (k <= m).then_some(Settings {
+        kind: Kind::Plain as usize,
         k,
         top,
         n,
         m,
         s: 0,
         w: 0,
-    }
+    })
 }
 
-// Kind 1: an s is found, top and n are within their limits, and I is at most n.
-fn accept_staged(k: usize, top: usize, n: usize) -> Settings
-    ensures { result ≡ accept_staged k top n }
+// Kind 1: an s of at least 2 is found, I is at most n, and there are at least k blocks.
+fn accept_staged(k: usize, top: usize, n: usize) -> Option<Settings>
+    ensures { result ≡ if_accepted (accept_staged k top n) }
 {
-    let s = stages_of(k);
-    if s < 2 {
-        return REFUSED;
-    }
-    if top < 1 {
-        return REFUSED;
-    }
-    if MOST_TOP < top {
-        return REFUSED;
-    }
-    if MOST_CELLS < n {
-        return REFUSED;
+    let s = stages_of(k)?;
+    if s < 2 || !in_limits(k, top, n) {
+        return None;
     }
     let w = index_width(top, k);
-    let index = index_cells(s, w);
-    if n < index {
-        return REFUSED;
-    }
-    let m = (n - index) / k;
-    if m < k {
-        return REFUSED;
-    }
-    Settings {
-        kind: 1,
+    let m = n.checked_sub(index_cells(s, w))? / k;
+    (k <= m).then_some(Settings {
+        kind: Kind::Staged as usize,
         k,
         top,
         n,
         m,
         s,
         w,
-    }
+    })
 }
 
-// The s from 0 to 6 with 2 ^ s = k: the zeros below the only digit of k. 0 where there is none.
-fn stages_of(k: usize) -> usize
-    ensures { result ≡ stages_of k }
+// The s from 0 to 6 with 2 ^ s = k: the zeros below the only digit of k.
+fn stages_of(k: usize) -> Option<usize>
+    ensures { place_of (as_found result) ≡ stages_of k }
 {
-    let s = usize::trailing_zeros(k) as usize;
-    if MOST_STAGES < s {
-        return 0;
-    }
-    if 1 << s != k {
-        return 0;
-    }
-    s
+    let s = k.trailing_zeros() as usize;
+    (s <= MOST_STAGES && 1 << s == k).then_some(s)
 }
 
-// The least w with (top + 1) ^ w at least k + 2.
+// The least w with (top + 1) ^ w at least k + 2. By products, as the divisions of a logarithm take longer.
 fn index_width(top: usize, k: usize) -> usize
     requires { (1 ≤ top) × (top ≤ most_top) × (k ≤ most_bits) }
     ensures { result ≡ index_width top k }
@@ -267,7 +199,7 @@ fn index_width(top: usize, k: usize) -> usize
     let mut w: usize = 0;
     let mut p: usize = 1;
     while p < k + 2 {
-        p = p * (top + 1);
+        p *= top + 1;
         w += 1;
     }
     w

@@ -1,6 +1,7 @@
 // The types that every crate shares: the settings of a sheet and the answer of a call. Assumes nothing.
 #![tactic(auto)]
 
+ghost use Rattle.rules.specs.Asked.{KindNamed};
 ghost use Rattle.rules.specs.Promises.{NumberPromise, ValuePromise};
 
 mod acceptance;
@@ -9,7 +10,7 @@ mod acceptance;
 pub const MOST_BITS: usize = 64;
 
 // Settings as acceptance gives them: what was asked for, and m blocks, s stages and index width w worked out.
-#[derive(Clone, Copy)]
+#[derive(Clone, Copy, PartialEq, Eq)]
 pub struct Settings {
     pub kind: usize,
     pub k: usize,
@@ -18,6 +19,32 @@ pub struct Settings {
     pub m: usize,
     pub s: usize,
     pub w: usize,
+}
+
+// The kinds of sheet. A record has the kind's number, as a caller may hand in any.
+#[derive(Clone, Copy, PartialEq, Eq)]
+pub enum Kind {
+    Plain,
+    Staged,
+}
+
+// A number that is no kind's.
+#[derive(Clone, Copy)]
+pub struct NoKind;
+
+impl TryFrom<usize> for Kind {
+    type Error = NoKind;
+
+    ghost try_from_gives = { KindNamed };
+
+    // The kind of a number.
+    fn try_from(number: usize) -> Result<Kind, NoKind> {
+        match number {
+            0 => Ok(Kind::Plain),
+            1 => Ok(Kind::Staged),
+            _ => Err(NoKind),
+        }
+    }
 }
 
 // The record of zeros: what refused settings give.
@@ -75,15 +102,8 @@ impl Answer {
         ensures { ValuePromise self result }
     {
         match self {
-            Answer::Done(v) => v,
-            Answer::BadLevel(cell) => cell,
-            Answer::BadShape => 0,
-            Answer::BadLength => 0,
-            Answer::ShortOutput => 0,
-            Answer::BadBit => 0,
-            Answer::BadSheet => 0,
-            Answer::Erase => 0,
-            Answer::BadRecord => 0,
+            Answer::Done(value) | Answer::BadLevel(value) => value,
+            _ => 0,
         }
     }
 }

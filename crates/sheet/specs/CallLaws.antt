@@ -1,5 +1,5 @@
 -- Laws of the calls: what the checks in their order say of a look, of a reading and of a change. Assumes nothing.
-use Rattle.std.specs.Prelude.{◌≡◌, List, ◌++◌, ◌≢◌, ℕ, ◌%◌, ◌≤◌, ◌<◌, length, get_or, drop}
+use Rattle.std.specs.Prelude.{◌≡◌, List, ◌++◌, ◌≢◌, ℕ, ◌≤◌, ◌<◌, length, drop}
 use Rattle.std.proofs.Common.{sym, ap, ap₂, ◌∙◌, subst, arith}
 use Rattle.std.proofs.Math.Decide.{dec_lt}
 use Rattle.rules.specs.Accept.{Genuine, block_count, genuine?, width_of}
@@ -14,11 +14,11 @@ use Rattle.rules.specs.declared.Settings.{Settings}
 use Rattle.laws.specs.Calls.{ask-fails, ask-passes, change-checks, checked-holds, erase-checks, level-is, read-checks, refusal-told, then-both, then-group}
 use Rattle.laws.specs.Lists.{tabulate-same}
 use Rattle.plain.specs.Meaning.{parities}
-use Rattle.plan.specs.Meaning.{Levelled, Sized, breaks, from_sheet, keeps, sizes_of, unseen}
-use Rattle.sheet.specs.Meaning.{LookAt, Seen, SheetLook, check_asked, first_checks, size_checks}
+use Rattle.plan.specs.Meaning.{Levelled, breaks, from_sheet, keeps, unseen, value_in}
+use Rattle.sheet.specs.Meaning.{LookAt, Seen, SheetLook, check_asked, first_checks, settings_of, size_checks}
 use Rattle.sheet.specs.declared.checks.Asked.{Asked}
 use Rattle.sheet.specs.declared.checks.Asked.TheVariants.{Bit, Places}
-use Rattle.plan.specs.declared.Sizes.{Sizes}
+use Rattle.sheet.specs.declared.accepted.Accepted.{Accepted}
 
 -- ---- the checks, in order
 
@@ -40,14 +40,6 @@ plain-width r e = go (genuine? r) where
   go : Dec (Genuine r) → 0 ≡ width_of r
   go (yes g) = sym (reported-is r r.w g ∙ (genuine-plain r g e).no-width)
   go (no n) = sym (reported-none r r.w n)
-
--- the sizes taken of a genuine record are its own
-pub sized : (r : Settings) (z : Sizes) → z ≡ sizes_of r → Genuine r → Sized r z
-sized r z e g = record {
-  genuine = g;
-  blocks = ap (λ (x : Sizes). x.blocks) e ∙ reported-is r r.m g;
-  width = ap (λ (x : Sizes). x.width) e ∙ reported-is r r.w g;
-}
 
 -- once checks 1 to 5 have passed, the record is genuine and the sheet levelled
 pub first-passed : (r : Settings) (xs : List ℕ) (asked : Asked) → first_checks r xs asked ≡ Pass → Genuine r × Levelled r xs
@@ -79,11 +71,30 @@ look-told r xs asked b e h = record {
   look = λ v q. ((first-passed r xs asked e).0, (first-passed r xs asked e).1, h);
 }
 
+-- ---- the kind, told once checks 1 to 5 have passed
+
+module _ (r : Settings) (xs : List ℕ) (asked : Asked) {a : Answer} {v : ℕ} (t : as_check a ≡ first_checks r xs asked) (d : a ≡ Done v) where
+  pass : first_checks r xs asked ≡ Pass
+  pass = sym t ∙ ap as_check d
+
+  -- what telling it asks for, of a number of blocks that the settings' method gave
+  pub accepted-asks : (blocks : ℕ) → blocks ≡ block_count r → Genuine r × (blocks ≡ r.m)
+  accepted-asks blocks e = let g : Genuine r = (first-passed r xs asked pass).0 in (g, e ∙ reported-is r r.m g)
+
+  module _ (k : Accepted) (e : settings_of k ≡ r) where
+    -- what its look asks for
+    pub accepted-levelled : Levelled (settings_of k) xs
+    accepted-levelled = subst (λ (x : Settings). Levelled x xs) (sym e) (first-passed r xs asked pass).1
+
+    -- and what that finds
+    pub accepted-told : (b : Look) → SheetLook (settings_of k) xs b → LookAt r xs asked b
+    accepted-told b h = look-told r xs asked b pass (subst (λ (x : Settings). SheetLook x xs b) e h)
+
 -- ---- the calls
 
 -- a look that answers Done kept the rules at that stage
 pub seen-is : (r : Settings) (xs : List ℕ) (b : Look) (v : ℕ) → SheetLook r xs b → b.answer ≡ Done v
-    → ((i : ℕ) → i < r.k → read_bit r xs i ≡ get_or b.weights i 0 % 2) × Seen r xs b v
+    → ((i : ℕ) → i < r.k → read_bit r xs i ≡ value_in b.bits i) × Seen r xs b v
 seen-is r xs b v (breaks e n) q = absurd (let y : Done v ≡ BadSheet = sym q ∙ e in let z : ◌≡◌ {A = ℕ} 0 1 = cc in omega arith)
 seen-is r xs b v (keeps u e s w y) q = let z : u ≡ v = (let p : Done u ≡ Done v = sym e ∙ q in cc) in (w, subst (Seen r xs b) z y)
 
@@ -94,10 +105,10 @@ read-refused r xs out b a h e n = ap (reading r xs out) (sym (refusal-told a n) 
 
 -- a reading that is written out
 pub read_made : (r : Settings) (xs out : List ℕ) (b : Look) (v ones : ℕ) (places : List ℕ) → LookAt r xs (Places (length out)) b → b.answer ≡ Done v
-    → ones ≡ sum (parities r.k b.weights) → places ≡ parities r.k b.weights ++ drop r.k out → read_out (Done ones) places ≡ read_call r xs out
+    → ones ≡ sum (parities r.k b.bits) → places ≡ parities r.k b.bits ++ drop r.k out → read_out (Done ones) places ≡ read_call r xs out
 unfolding read_call
 read_made r xs out b v ones places h e q w =
-    let z : parities r.k b.weights ≡ bits_of r xs = sym (tabulate-same r.k (read_bit r xs) (λ i. get_or b.weights i 0 % 2) (seen-is r xs b v (h.look v e).2 e).0) in
+    let z : parities r.k b.bits ≡ bits_of r xs = sym (tabulate-same r.k (read_bit r xs) (value_in b.bits) (seen-is r xs b v (h.look v e).2 e).0) in
     ap₂ (λ (x : ℕ) (ys : List ℕ). read_out (Done x) ys) (q ∙ ap sum z) (w ∙ ap (λ (ys : List ℕ). ys ++ drop r.k out) z) ∙ ap (reading r xs out) (sym (ap as_check e) ∙ h.told)
 
 -- a change whose checks refuse
@@ -123,3 +134,16 @@ read-places r xs out v b h e = (checked-holds (read-checks r xs out) (sym h.told
 -- a change whose checks pass is of a sheet that keeps the rules
 pub change-sound : (r : Settings) (xs : List ℕ) (i v : ℕ) (b : Look) → LookAt r xs (Bit i) b → b.answer ≡ Done v → Sound r xs
 change-sound r xs i v b h e = (checked-holds (change-checks r xs i) (sym h.told ∙ ap as_check e)).0.sound
+
+-- a change whose checks passed up to the look: the sheet is levelled and sound, the bit one of the k, the look saw the stage, and from check 6 on the call is the maps'
+pub record Looked (r : Settings) (xs : List ℕ) (i : ℕ) (b : Look) (v : ℕ) : Type 0 where
+  pub levelled : Levelled r xs
+  pub sound : Sound r xs
+  pub bit : i < r.k
+  pub seen : Seen r xs b v
+  pub maps : from_sheet r xs i ≡ change_call r xs i
+
+pub change-looked : (r : Settings) (xs : List ℕ) (i v : ℕ) (b : Look) → LookAt r xs (Bit i) b → b.answer ≡ Done v → Looked r xs i b v
+change-looked r xs i v b h e =
+    let g : Genuine r × Levelled r xs × SheetLook r xs b = h.look v e in
+    record { levelled = g.1; sound = change-sound r xs i v b h e; bit = change-bit r xs i v b h e; seen = (seen-is r xs b v g.2 e).1; maps = change-passed r xs i v b h e }

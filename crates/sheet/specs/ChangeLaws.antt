@@ -1,5 +1,5 @@
 -- Laws of a change once every check has passed: the plan by the kind of the sheet, and what it comes to carried out. Assumes nothing.
-use Rattle.std.specs.Prelude.{List, [], ◌∷◌, ◌≢◌, ◌≡◌, refl, ℕ, ◌+◌, ◌-◌, ◌%◌, ◌≤◌, ◌<◌, get_or}
+use Rattle.std.specs.Prelude.{List, [], ◌∷◌, ◌≢◌, ◌≡◌, refl, Option, ℕ, ◌+◌, ◌-◌, ◌≤◌, ◌<◌}
 use Rattle.std.proofs.Common.{sym, ap, ◌∙◌, subst, arith}
 use types.Run.{OneOf, miss}
 use denote.Enum.Declared.{tag_of}
@@ -7,7 +7,7 @@ use Rattle.plan.specs.contracts.Plan.{the_type}
 use Rattle.laws.specs.Block.{length-cycle, sum-cycle}
 use Rattle.laws.specs.Cut.{store-sum}
 use Rattle.rules.specs.Accept.{Genuine}
-use Rattle.rules.specs.AcceptLaws.{PlainFacts, StagedFacts, genuine-plain, genuine-staged}
+use Rattle.rules.specs.AcceptLaws.{CommonFacts, PlainFacts, StagedFacts, genuine-plain, genuine-staged, plain-common, staged-common}
 use Rattle.rules.specs.Block.{cycle}
 use Rattle.rules.specs.Calls.{Sound, outcome}
 use Rattle.rules.specs.Cells.{store, sum}
@@ -18,14 +18,19 @@ use Rattle.rules.specs.declared.Settings.{Settings}
 use Rattle.plain.specs.Meaning.{PlainLook, plan_in}
 use Rattle.plain.specs.SheetLaws.{plain-planned}
 use Rattle.plan.specs.Laws.{look-map, made-done, made_none}
-use Rattle.plan.specs.Meaning.{Fits, Levelled, Planned, Staged, StepFits, carried, carried_out, from_sheet}
+use Rattle.plan.specs.Meaning as W
+use Rattle.plan.specs.Meaning.{Fits, Levelled, Planned, StepFits, carried, carried_out, from_sheet, value_in}
 use Rattle.plan.specs.declared.Look.{Look}
+use Rattle.plan.specs.declared.Place.{Place}
 use Rattle.plan.specs.declared.Plan.{Plan}
 use Rattle.plan.specs.declared.Plan.TheVariants.{Close, Move, Nowhere, Raise, Step, Take}
 use Rattle.staged.specs.Meaning.{StagedLook, StagedSeen}
 use Rattle.staged.specs.TagLaws.{place_tags}
 use Rattle.staged.specs.SeenLaws.{seen_most}
-use Rattle.sheet.specs.Meaning.{Seen, SheetLook, place_check, plain, staged}
+use Rattle.plain.specs.declared.kind0.PlainSettings.{PlainSettings}
+use Rattle.sheet.specs.Meaning.{Seen, SheetLook, place_check, plain, settings_of, staged}
+use Rattle.sheet.specs.declared.accepted.Accepted.{Accepted}
+use Rattle.sheet.specs.declared.accepted.Accepted.TheVariants.{Plain, Staged}
 
 -- ---- the look, by kind
 
@@ -40,13 +45,15 @@ staged-seen r f b p h = look-map r f b (λ v k. staged p k) h
 -- ---- the plan, by kind
 
 module _ (r : Settings) (f : List ℕ) (b : Look) (i : ℕ) (u : Levelled r f) (l : i < r.k) where
-  plain-from : {v : ℕ} → Seen r f b v → r.kind ≡ 0 → (m : ℕ) → m ≡ r.m → (d : ℕ) → Planned r f i d b.weights (plan_in b i m)
-  plain-from (plain p h) k m e d = plain-planned r f p u b h i l d b.weights m e
-  plain-from (staged p h) k m e d = absurd (omega (arith, p.staged))
+  plain-from : {v : ℕ} → Seen r f b v → r.kind ≡ 0 → (d : ℕ) → Planned r f i d b.bits (plan_in b i)
+  plain-from (plain p h) k d = plain-planned r f p u b h i l d b.bits
+  plain-from (staged p h) k d = absurd (omega (arith, p.staged))
 
-  -- of a plain sheet
-  pub plain-plan : (v : ℕ) → Seen r f b v → r.kind ≡ 0 → (m : ℕ) → m ≡ r.m → (d : ℕ) → Planned r f i d b.weights (plan_in b i m)
-  plain-plan v s k m e d = plain-from s k m e d
+-- of a plain sheet
+pub plain-plan : {k : Accepted} {o : PlainSettings} → k ≡ Plain o → (f : List ℕ) (b : Look) (i v d : ℕ) → Levelled (settings_of k) f → i < (settings_of k).k → Seen (settings_of k) f b v
+    → Planned (settings_of k) f i d b.bits (plan_in b i)
+plain-plan {k} {o} e f b i v d = subst (λ (x : Accepted). Levelled (settings_of x) f → i < (settings_of x).k → Seen (settings_of x) f b v → Planned (settings_of x) f i d b.bits (plan_in b i)) (sym e)
+    (λ u l s. plain-from o.settings f b i u l s o.plain.plain d)
 
 staged-from : {r : Settings} {f : List ℕ} {b : Look} {v : ℕ} → Seen r f b v → ¬ (r.kind ≡ 0) → StagedFacts r × StagedSeen r f b v
 staged-from (plain p h) n = absurd (n p.plain)
@@ -97,7 +104,7 @@ place_none Nowhere n = (refl, refl)
 abbrev staged_tags : List ℕ
 staged_tags = 1 ∷ 2 ∷ 3 ∷ 4 ∷ 5 ∷ []
 
-pub no_step : (p : Plan) → OneOf staged_tags (tag_of the_type p) → (v : ℕ) → place_check p ≡ Done v → Staged p
+pub no_step : (p : Plan) → OneOf staged_tags (tag_of the_type p) → (v : ℕ) → place_check p ≡ Done v → W.Staged p
 no_step (Step j v) o w e = absurd (miss staged_tags 0 tt o)
 no_step (Raise j) o w e = tt
 no_step (Close j a) o w e = tt
@@ -106,10 +113,10 @@ no_step (Move e) o w q = tt
 no_step Nowhere o w e = absurd (let z : ◌≡◌ {A = ℕ} 0 1 = cc in omega arith)
 
 -- and then the settings are of kind 1
-pub fits-staged : (r : Settings) → Genuine r → (f : List ℕ) (i d : ℕ) (p : Plan) → Staged p → Fits r f i d p → StagedFacts r
+pub fits-staged : (r : Settings) → Genuine r → (f : List ℕ) (i d : ℕ) (p : Plan) → W.Staged p → Fits r f i d p → StagedFacts r
 fits-staged r g f i d p s k = genuine-staged r g (λ e. not_plain p s k (genuine-plain r g e).no-stages)
   where
-    not_plain : (p : Plan) → Staged p → Fits r f i d p → ¬ (r.s ≡ 0)
+    not_plain : (p : Plan) → W.Staged p → Fits r f i d p → ¬ (r.s ≡ 0)
     not_plain (Step j v) s k z = s
     not_plain (Raise j) s k z = absurd (omega (arith, k.stage))
     not_plain (Close j a) s k z = absurd (omega (arith, k.0.stage))
@@ -119,8 +126,13 @@ fits-staged r g f i d p s k = genuine-staged r g (λ e. not_plain p s k (genuine
 
 -- ---- carried out
 
+-- what the settings of both kinds keep
+pub accepted-common : (k : Accepted) → CommonFacts (settings_of k)
+accepted-common (Plain o) = plain-common o.settings o.plain
+accepted-common (Staged o) = staged-common o.settings o.staged
+
 -- a step raises one level
-pub step-one : (r : Settings) → Genuine r → (f : List ℕ) (i j v : ℕ) → i < r.k → StepFits r f i j v → 1 + sum f ≡ sum (store r.k f j (cycle r.k r.top i (v + 1)))
+pub step-one : (r : Settings) → CommonFacts r → (f : List ℕ) (i j v : ℕ) → i < r.k → StepFits r f i j v → 1 + sum f ≡ sum (store r.k f j (cycle r.k r.top i (v + 1)))
 step-one r g f i j v l h =
     let le : i ≤ r.k = omega arith in
     let new : List ℕ = cycle r.k r.top i (v + 1) in
@@ -132,11 +144,11 @@ step-one r g f i j v l h =
     )
 
 -- a plan that names a place, carried out with its levels, is the call's answer
-pub carried-done : (r : Settings) (f : List ℕ) → Sound r f → (i d : ℕ) (ws : List ℕ) (p : Plan) (v q : ℕ) (ys : List ℕ) → Planned r f i d ws p → place_check p ≡ Done v
-    → ys ≡ carried r i d (after i (λ y. get_or ws y 0 % 2)) f p → q + sum f ≡ sum ys → outcome (Done q) ys ≡ from_sheet r f i
-carried-done r f s i d ws p v q ys h c e k = made-done r f i s q ys (h.made ∙ out p c ∙ ap (λ (x : List ℕ). done x) (sym e)) k
+pub carried-done : (r : Settings) (f : List ℕ) → Sound r f → (i d : ℕ) (bits : List (Option Place)) (p : Plan) (v q : ℕ) (ys : List ℕ) → Planned r f i d bits p → place_check p ≡ Done v
+    → ys ≡ carried r i d (after i (value_in bits)) f p → q + sum f ≡ sum ys → outcome (Done q) ys ≡ from_sheet r f i
+carried-done r f s i d bits p v q ys h c e k = made-done r f i s q ys (h.made ∙ out p c ∙ ap (λ (x : List ℕ). done x) (sym e)) k
   where
-    out : (p : Plan) → place_check p ≡ Done v → carried_out r i d (after i (λ y. get_or ws y 0 % 2)) f p ≡ done (carried r i d (after i (λ y. get_or ws y 0 % 2)) f p)
+    out : (p : Plan) → place_check p ≡ Done v → carried_out r i d (after i (value_in bits)) f p ≡ done (carried r i d (after i (value_in bits)) f p)
     out (Step j w) c = refl
     out (Raise j) c = refl
     out (Close j a) c = refl
@@ -145,5 +157,5 @@ carried-done r f s i d ws p v q ys h c e k = made-done r f i s q ys (h.made ∙ 
     out Nowhere c = absurd (let z : ◌≡◌ {A = ℕ} 0 1 = cc in omega arith)
 
 -- and one of no place is answered Erase
-pub carried_none : (r : Settings) (f : List ℕ) → Sound r f → (i d : ℕ) (ws : List ℕ) (p : Plan) → Planned r f i d ws p → p ≡ Nowhere → outcome Erase f ≡ from_sheet r f i
-carried_none r f s i d ws p h e = made_none r f i s (h.made ∙ ap (carried_out r i d (after i (λ y. get_or ws y 0 % 2)) f) e)
+pub carried_none : (r : Settings) (f : List ℕ) → Sound r f → (i d : ℕ) (bits : List (Option Place)) (p : Plan) → Planned r f i d bits p → p ≡ Nowhere → outcome Erase f ≡ from_sheet r f i
+carried_none r f s i d bits p h e = made_none r f i s (h.made ∙ ap (carried_out r i d (after i (value_in bits)) f) e)

@@ -1,5 +1,5 @@
 -- What the checks of a call find, and a look at a sheet of either kind. Assumes nothing.
-use Rattle.std.specs.Prelude.{◌≡◌, List, ℕ, length}
+use Rattle.std.specs.Prelude.{◌≡◌, Bool, true, false, List, ℕ, length}
 use Rattle.std.proofs.Math.Decide.{ℕ_discrete, dec_le, dec_lt}
 use Rattle.rules.specs.Accept.{Genuine}
 use Rattle.rules.specs.AcceptLaws.{PlainFacts, StagedFacts}
@@ -15,8 +15,22 @@ use Rattle.plan.specs.declared.Plan.TheVariants.{Close, Move, Nowhere, Raise, St
 use Rattle.staged.specs.Meaning.{StagedSeen}
 use Rattle.sheet.specs.declared.checks.Asked.{Asked}
 use Rattle.sheet.specs.declared.checks.Asked.TheVariants.{Bit, Places}
+use Rattle.sheet.specs.declared.accepted.Accepted.{Accepted}
+use Rattle.sheet.specs.declared.accepted.Accepted.TheVariants.{Plain, Staged}
+
+-- ---- the kinds
+
+-- accepted settings of either kind
+abbrev pub settings_of : Accepted → Settings
+settings_of (Plain of) = of.settings
+settings_of (Staged of) = of.settings
 
 -- ---- the checks, in number order
+
+-- a test's answer: Done with what was found where it holds, else its refusal
+abbrev pub answer_if : Bool → ℕ → Answer → Answer
+answer_if true v a = Done v
+answer_if false v a = a
 
 -- 3 or 4: what the call asks for itself
 abbrev pub check_asked : ℕ → Asked → Check

@@ -5,9 +5,9 @@ ghost use Rattle.rules.specs.Accept.{block_count};
 ghost use Rattle.rules.specs.Calls.{ask, as_check, level_check};
 ghost use Rattle.rules.specs.Cells.{first_above};
 ghost use Rattle.rules.specs.declared.Answer.TheVariants.{BadShape, BadLength, ShortOutput, BadBit};
-ghost use Rattle.sheet.specs.Meaning.{check_asked, first_checks, place_check, size_checks};
+ghost use Rattle.sheet.specs.Meaning.{answer_if, check_asked, first_checks, place_check, size_checks};
 
-use cells::{Level, first_above};
+use cells::first_above;
 use plan::Plan;
 use rules::{Answer, Settings};
 
@@ -18,54 +18,52 @@ pub enum Asked {
     Bit(usize),
 }
 
+// A test's answer: Done with what was found where it holds, else its refusal.
+fn answer_of(holds: bool, found: usize, refusal: Answer) -> Answer
+    ensures { result ≡ answer_if holds found refusal }
+{
+    if holds {
+        return Answer::Done(found);
+    }
+    refusal
+}
+
 // Check 1: settings have blocks exactly if acceptance gives their record.
 fn check_shape(blocks: usize) -> Answer
     ensures { as_check result ≡ ask (dec_lt 0 blocks) BadShape }
 {
-    if 0 < blocks {
-        return Answer::Done(blocks);
-    }
-    Answer::BadShape
+    answer_of(0 < blocks, blocks, Answer::BadShape)
 }
 
 // Check 2: the sheet's length is n.
 fn check_length(cells: usize, n: usize) -> Answer
     ensures { as_check result ≡ ask (ℕ_discrete cells n) BadLength }
 {
-    if cells == n {
-        return Answer::Done(cells);
-    }
-    Answer::BadLength
+    answer_of(cells == n, cells, Answer::BadLength)
 }
 
 // Check 3: the output has k places.
 fn check_output(places: usize, k: usize) -> Answer
     ensures { as_check result ≡ ask (dec_le k places) ShortOutput }
 {
-    if k <= places {
-        return Answer::Done(places);
-    }
-    Answer::ShortOutput
+    answer_of(k <= places, places, Answer::ShortOutput)
 }
 
 // Check 4: the bit's number is below k.
 fn check_bit(bit: usize, k: usize) -> Answer
     ensures { as_check result ≡ ask (dec_lt bit k) BadBit }
 {
-    if bit < k {
-        return Answer::Done(bit);
-    }
-    Answer::BadBit
+    answer_of(bit < k, bit, Answer::BadBit)
 }
 
 // Check 5: no cell is above the top level.
 fn check_levels(sheet: &[u8], top: u8) -> Answer
     ensures { as_check result ≡ level_check (first_above top sheet.now) }
 {
-    if let Level::Above(cell) = first_above(sheet, top) {
-        return Answer::BadLevel(cell);
+    match first_above(sheet, top) {
+        Some(cell) => Answer::BadLevel(cell),
+        None => Answer::Done(sheet.len()),
     }
-    Answer::Done(sheet.len())
 }
 
 // Check 3 or 4, by what the call asks for itself.

@@ -1,7 +1,9 @@
 -- Laws of the scan of one stage: what one more parity block does to what the scan holds, and how a stage breaks the rules.
 -- Assumes nothing.
-use Rattle.std.specs.Prelude.{List, [], ◌∷◌, ◌++◌, ◌≢◌, ◌≡◌, refl, ℕ, suc, ◌*◌, ◌≤◌, ◌<◌, get_or, length, set}
+use Rattle.std.specs.Prelude.{List, [], ◌∷◌, ◌++◌, ◌≢◌, ◌≡◌, refl, ℕ, suc, ◌*◌, ◌≤◌, ◌<◌, get_or, length, set, Option, Some, None, IsSome, IsNone}
 use Rattle.std.proofs.Common.{append-nil, ◌∙◌, ap, subst, sym, mul-le-mul, arith, length-append, length-set, get_or-set_other, get_or-set_same}
+use Rattle.std.specs.Option.{option_or}
+use Rattle.std.proofs.lemmas.Bool.{false≢true, true≢false}
 use Rattle.std.proofs.Math.Decide.{ℕ_discrete}
 use Rattle.std.proofs.lemmas.List.{get_or-replicate}
 use Rattle.std.proofs.Math.ListN.{get_or-append}
@@ -9,7 +11,7 @@ use Rattle.std.proofs.Math.Seq.{get_or-append_seam}
 use Rattle.laws.specs.Cut.{block-fits, blocks-cells, length-block, low-block}
 use Rattle.laws.specs.Lists.{sum_low}
 use Rattle.laws.specs.Live.{live_block}
-use Rattle.laws.specs.LiveBlock.{live-block-append, live-block-in, live-block-last, weights-append}
+use Rattle.laws.specs.LiveBlock.{live-block-append, live-block-last, weights-append}
 use Rattle.laws.specs.Stage.{absent-at}
 use Rattle.index.specs.declared.Region.{Region}
 use Rattle.rules.specs.Accept.{most_bits}
@@ -17,8 +19,10 @@ use Rattle.rules.specs.Cells.{block, sum}
 use Rattle.rules.specs.SearchLaws.{pick_no}
 use Rattle.rules.specs.Stage.{Absent, Entry, Names, index, indexes, live_weights}
 use Rattle.stage.specs.LiveLaws.{absent-append, indexes-append, names-free, names-new, open-entry-append, open-entry-last}
-use Rattle.stage.specs.Meaning.{FirstAt, Home, Passed, StageFits, begun, has, has_not, with_free}
+use Rattle.cells.specs.declared.blocks.Blocks.{Blocks}
+use Rattle.stage.specs.Meaning.{FirstAt, Home, Passed, ScanFits, StageFits, begun, has, has_not, open_entry, with_free, with_own}
 use Rattle.plan.specs.declared.Look.{Look}
+use Rattle.plan.specs.declared.Place.{Place}
 
 -- ---- what a stage asks keeps its numbers small
 
@@ -33,6 +37,10 @@ module _ {len count : ℕ} {region : Region} {k L : ℕ} {cells batch : List ℕ
       let n : length (block len cells j) ≡ len = length-block len cells j (omega (arith, block-fits len j count h, f.inside)) in
       let l : sum (block len cells j) ≤ len * L = subst (λ (x : ℕ). sum (block len cells j) ≤ x * L) n (sum_low L (block len cells j) (low-block L len cells j f.low)) in
       omega (arith, mul-le-mul f.brief g)
+
+-- parity blocks that lie in the cells are as the laws ask
+pub fits-of : {b : Blocks} {region : Region} {k : ℕ} {batch : List ℕ} → ScanFits b region k batch → StageFits b.len b.count region k b.top b.cells.now batch
+fits-of {b} f = record { bits = f.bits; few = f.few; long = f.long; brief = f.brief; inside = b.inside; short = b.short; level = f.level; low = b.low; indexed = f.indexed }
 
 -- ---- the first rank of a number
 
@@ -55,74 +63,77 @@ first-last u ts o = record {
 -- ---- a number's block, with more blocks at the end
 
 -- equal numbers for the block
-home_same : {W none u : ℕ} {bs : List (List ℕ)} {es : List Entry} {p p' o o' v v' : ℕ} → Home W none u bs es p o v → p' ≡ p → o' ≡ o → v' ≡ v → Home W none u bs es p' o' v'
-home_same (has t f a b c) x y z = has t f (x ∙ a) (y ∙ b) (z ∙ c)
-home_same (has_not n a b c) x y z = has_not n (x ∙ a) (y ∙ b) (z ∙ c)
+place_same : {j j' x x' v v' : ℕ} → j ≡ j' → x ≡ x' → v ≡ v' → ◌≡◌ {A = Place} (record { block = j; slot = x; weight = v }) (record { block = j'; slot = x'; weight = v' })
+place_same a b c = cc
 
-module _ (W none u : ℕ) (bs : List (List ℕ)) (es : List Entry) (as_many : length (indexes es) ≡ length (live_weights W bs)) where
+module _ (W u : ℕ) (bs : List (List ℕ)) (es : List Entry) (as_many : length (indexes es) ≡ length (live_weights W bs)) where
   -- it stays, or stays away
-  home-more : (cs : List (List ℕ)) (fs : List Entry) (place slot weight : ℕ) → (Absent u (indexes es) → Absent u (indexes fs))
-      → Home W none u bs es place slot weight → Home W none u (bs ++ cs) (es ++ fs) place slot weight
-  home-more cs fs place slot weight a (has t f p o v) =
+  home-more : (cs : List (List ℕ)) (fs : List Entry) (o : Option Place) → (Absent u (indexes es) → Absent u (indexes fs))
+      → Home W u bs es o → Home W u (bs ++ cs) (es ++ fs) o
+  home-more cs fs o a (has t f) =
       let l : t < length (live_weights W bs) = omega (arith, f.inside) in
-      has t (subst (λ (ts : List ℕ). FirstAt u ts t) (sym (indexes-append es fs)) (first-append u t (indexes es) (indexes fs) f))
-      (p ∙ sym (live-block-append W t bs cs l)) (o ∙ sym (open-entry-append t es fs f.inside))
-      (v ∙ sym (ap (λ (ws : List ℕ). get_or ws t 0) (weights-append W bs cs) ∙ get_or-append (live_weights W bs) (live_weights W cs) 0 t l))
-  home-more cs fs place slot weight a (has_not n p o v) =
-      has_not (subst (Absent u) (sym (indexes-append es fs)) (absent-append u (indexes es) (indexes fs) n (a n))) p o v
+      let p : live_block W t (bs ++ cs) ≡ live_block W t bs = live-block-append W t bs cs l in
+      let x : open_entry t (es ++ fs) ≡ open_entry t es = open-entry-append t es fs f.inside in
+      let v : get_or (live_weights W (bs ++ cs)) t 0 ≡ get_or (live_weights W bs) t 0 =
+      ap (λ (ws : List ℕ). get_or ws t 0) (weights-append W bs cs) ∙ get_or-append (live_weights W bs) (live_weights W cs) 0 t l in
+      subst (λ (q : Place). Home W u (bs ++ cs) (es ++ fs) (Some q)) (place_same p x v)
+      (has t (subst (λ (ts : List ℕ). FirstAt u ts t) (sym (indexes-append es fs)) (first-append u t (indexes es) (indexes fs) f)))
+  home-more cs fs o a (has_not n) =
+      has_not (subst (Absent u) (sym (indexes-append es fs)) (absent-append u (indexes es) (indexes fs) n (a n)))
 
   -- it is the last, where none had the number before
-  home-new : (b : List ℕ) → sum b ≢ W → Absent u (indexes es) → Home W none u (bs ++ (b ∷ [])) (es ++ (index u ∷ [])) (length bs) (length es) (sum b)
-  home-new b n a =
+  home-new : (b : List ℕ) → sum b ≢ W → Absent u (indexes es) → (p : Place) → p.block ≡ length bs → p.slot ≡ length es → p.weight ≡ sum b
+      → Home W u (bs ++ (b ∷ [])) (es ++ (index u ∷ [])) (Some p)
+  home-new b n a p j x v =
       let e : live_weights W (bs ++ (b ∷ [])) ≡ live_weights W bs ++ (sum b ∷ []) =
       weights-append W bs (b ∷ []) ∙ ap (λ (r : List ℕ). live_weights W bs ++ r) (pick_no (ℕ_discrete (sum b) W) _ _ n) in
-      has (length (indexes es)) (subst (λ (ts : List ℕ). FirstAt u ts (length (indexes es))) (sym (indexes-append es (index u ∷ []))) (first-last u (indexes es) a))
-      (sym (ap (λ (t : ℕ). live_block W t (bs ++ (b ∷ []))) as_many ∙ live-block-last W b bs n)) (sym (open-entry-last u es))
-      (sym (ap (λ (t : ℕ). get_or (live_weights W (bs ++ (b ∷ []))) t 0) as_many ∙ ap (λ (ws : List ℕ). get_or ws (length (live_weights W bs)) 0) e ∙ get_or-append_seam (live_weights W bs) (sum b) [] 0))
+      subst (λ (q : Place). Home W u (bs ++ (b ∷ [])) (es ++ (index u ∷ [])) (Some q))
+      (place_same (ap (λ (t : ℕ). live_block W t (bs ++ (b ∷ []))) as_many ∙ live-block-last W b bs n ∙ sym j) (open-entry-last u es ∙ sym x)
+      (ap (λ (t : ℕ). get_or (live_weights W (bs ++ (b ∷ []))) t 0) as_many ∙ ap (λ (ws : List ℕ). get_or ws (length (live_weights W bs)) 0) e ∙ get_or-append_seam (live_weights W bs) (sum b) [] 0 ∙ sym v))
+      (has (length (indexes es)) (subst (λ (ts : List ℕ). FirstAt u ts (length (indexes es))) (sym (indexes-append es (index u ∷ []))) (first-last u (indexes es) a)))
 
-  module _ (l : length bs ≤ none) (place slot weight : ℕ) where
-    -- a number whose block is one of the blocks stands in the list, and any other does not
-    pub home-there : Home W none u bs es place slot weight → place ≢ none → ¬ Absent u (indexes es)
-    home-there (has t f p o v) h a = absent-at u t (indexes es) a f.inside (sym f.there)
-    home-there (has_not n p o v) h a = h p
+-- a number that has a block stands in the list
+pub home-there : {W u : ℕ} {bs : List (List ℕ)} {es : List Entry} {o : Option Place} → Home W u bs es o → IsSome o → ¬ Absent u (indexes es)
+home-there {u = u} {es = es} (has t f) e a = absent-at u t (indexes es) a f.inside (sym f.there)
+home-there (has_not n) e a = false≢true e
 
-    -- and any other does not
-    pub home-nowhere : Home W none u bs es place slot weight → ¬ (place < none) → Absent u (indexes es)
-    home-nowhere (has t f p o v) h = absurd (h (omega (arith, live-block-in W t bs (omega (arith, f.inside)))))
-    home-nowhere (has_not n p o v) h = n
+-- and one that has none does not
+pub home-nowhere : {W u : ℕ} {bs : List (List ℕ)} {es : List Entry} {o : Option Place} → Home W u bs es o → IsNone o → Absent u (indexes es)
+home-nowhere (has t f) e = absurd (true≢false e)
+home-nowhere (has_not n) e = n
 
 -- ---- what the scan holds, with more blocks at the end
 
 -- nothing is passed at first
-pub passed_none : (stage cell k W none : ℕ) → Passed stage cell k W none [] [] (begun stage cell none)
-passed_none stage cell k W none = record {
+pub passed_none : (stage cell k W : ℕ) → Passed stage cell k W [] [] (begun stage cell)
+passed_none stage cell k W = record {
   answer = refl;
   batch = refl;
-  lengths = (refl, refl, refl);
+  long = refl;
   as_many = refl;
   names = tt;
-  homes = λ i l. has_not tt (get_or-replicate most_bits i none 0 l) (get_or-replicate most_bits i 0 0 l) (get_or-replicate most_bits i 0 0 l);
-  free = has_not tt refl refl refl;
+  homes = λ i l. subst (Home W (suc i) [] []) (sym (get_or-replicate most_bits i None None l)) (has_not tt);
+  free = has_not tt;
 }
 
-module _ (stage cell k W none : ℕ) (bs : List (List ℕ)) (es : List Entry) (s : Look) (g : Passed stage cell k W none bs es s) where
+module _ (stage cell k W : ℕ) (bs : List (List ℕ)) (es : List Entry) (s : Look) (g : Passed stage cell k W bs es s) where
   -- full ones change nothing
-  pub passed-full : (cs : List (List ℕ)) (fs : List Entry) → live_weights W cs ≡ [] → indexes fs ≡ [] → Passed stage cell k W none (bs ++ cs) (es ++ fs) s
+  pub passed-full : (cs : List (List ℕ)) (fs : List Entry) → live_weights W cs ≡ [] → indexes fs ≡ [] → Passed stage cell k W (bs ++ cs) (es ++ fs) s
   passed-full cs fs c f =
       let ts : indexes (es ++ fs) ≡ indexes es = indexes-append es fs ∙ ap (λ (r : List ℕ). indexes es ++ r) f ∙ append-nil (indexes es) in
       let ws : live_weights W (bs ++ cs) ≡ live_weights W bs = weights-append W bs cs ∙ ap (λ (r : List ℕ). live_weights W bs ++ r) c ∙ append-nil (live_weights W bs) in
       record {
         answer = g.answer;
         batch = g.batch;
-        lengths = g.lengths;
+        long = g.long;
         as_many = ap length ts ∙ g.as_many ∙ sym (ap length ws);
         names = subst (Names k) (sym ts) g.names;
-        homes = λ i l. home-more W none (suc i) bs es g.as_many cs fs _ _ _ (λ a. subst (Absent (suc i)) (sym f) tt) (g.homes i l);
-        free = home-more W none 0 bs es g.as_many cs fs _ _ _ (λ a. subst (Absent 0) (sym f) tt) g.free;
+        homes = λ i l. home-more W (suc i) bs es g.as_many cs fs _ (λ a. subst (Absent (suc i)) (sym f) tt) (g.homes i l);
+        free = home-more W 0 bs es g.as_many cs fs _ (λ a. subst (Absent 0) (sym f) tt) g.free;
       }
 
-  -- a parity block and an index block that aren't full
-  module _ (b : List ℕ) (n : sum b ≢ W) where
+  -- a parity block and an index block that aren't full, and the place made of them
+  module _ (b : List ℕ) (n : sum b ≢ W) (p : Place) (j : p.block ≡ length bs) (x : p.slot ≡ length es) (v : p.weight ≡ sum b) where
     -- there is one more of each
     one_more : (u : ℕ) → length (indexes (es ++ (index u ∷ []))) ≡ length (live_weights W (bs ++ (b ∷ [])))
     one_more u =
@@ -131,57 +142,43 @@ module _ (stage cell k W none : ℕ) (bs : List (List ℕ)) (es : List Entry) (s
         let ws : length (live_weights W (bs ++ (b ∷ []))) ≡ length (live_weights W bs ++ live_weights W (b ∷ [])) = ap length (weights-append W bs (b ∷ [])) in
         omega (arith, length-append (indexes es) (u ∷ []), length-append (live_weights W bs) (live_weights W (b ∷ [])), g.as_many)
 
-    -- a free index keeps the names
-    free_names : Names k (indexes (es ++ (index 0 ∷ [])))
-    free_names = subst (Names k) (sym (indexes-append es (index 0 ∷ []))) (names-free k (indexes es) g.names)
+    -- the first free one stays; where there was none, it is the new one
+    free_at : (o : Option Place) → Home W 0 bs es o → Home W 0 (bs ++ (b ∷ [])) (es ++ (index 0 ∷ [])) (option_or o (Some p))
+    free_at (Some q) h = home-more W 0 bs es g.as_many (b ∷ []) (index 0 ∷ []) (Some q) (λ a. absurd (home-there h refl a)) h
+    free_at None h = home-new W 0 bs es g.as_many b n (home-nowhere h refl) p j x v
 
-    -- a further free one
-    pub passed-free : ¬ Absent 0 (indexes es) → Passed stage cell k W none (bs ++ (b ∷ [])) (es ++ (index 0 ∷ [])) s
-    passed-free a = record {
+    -- a free one
+    pub passed-free : Passed stage cell k W (bs ++ (b ∷ [])) (es ++ (index 0 ∷ [])) (with_free s p)
+    passed-free = record {
       answer = g.answer;
       batch = g.batch;
-      lengths = g.lengths;
+      long = g.long;
       as_many = one_more 0;
-      names = free_names;
-      homes = λ i l. home-more W none (suc i) bs es g.as_many (b ∷ []) (index 0 ∷ []) _ _ _ (λ o. (λ e. omega arith, tt)) (g.homes i l);
-      free = home-more W none 0 bs es g.as_many (b ∷ []) (index 0 ∷ []) _ _ _ (λ o. absurd (a o)) g.free;
+      names = subst (Names k) (sym (indexes-append es (index 0 ∷ []))) (names-free k (indexes es) g.names);
+      homes = λ i l. home-more W (suc i) bs es g.as_many (b ∷ []) (index 0 ∷ []) _ (λ o. (λ e. omega arith, tt)) (g.homes i l);
+      free = free_at s.free g.free;
     }
 
-    module _ (place slot weight : ℕ) (p : place ≡ length bs) (o : slot ≡ length es) (v : weight ≡ sum b) where
-      -- the first free one
-      pub passed-first-free : Absent 0 (indexes es)
-          → Passed stage cell k W none (bs ++ (b ∷ [])) (es ++ (index 0 ∷ [])) (with_free s place slot weight)
-      passed-first-free a = record {
-        answer = g.answer;
-        batch = g.batch;
-        lengths = g.lengths;
-        as_many = one_more 0;
-        names = free_names;
-        homes = λ i l. home-more W none (suc i) bs es g.as_many (b ∷ []) (index 0 ∷ []) _ _ _ (λ r. (λ e. omega arith, tt)) (g.homes i l);
-        free = home_same (home-new W none 0 bs es g.as_many b n a) p o v;
-      }
+    -- a bit's number, and each other bit's
+    own_at : (i : ℕ) → i < most_bits → Absent (suc i) (indexes es) → (y : ℕ) → y < most_bits → Dec (y ≡ i)
+        → Home W (suc y) (bs ++ (b ∷ [])) (es ++ (index (suc i) ∷ [])) (get_or (set s.bits i (Some p)) y None)
+    own_at i h a y l (yes e) =
+        subst (λ (z : ℕ). Home W (suc z) (bs ++ (b ∷ [])) (es ++ (index (suc i) ∷ [])) (get_or (set s.bits i (Some p)) z None)) (sym e)
+        (subst (Home W (suc i) (bs ++ (b ∷ [])) (es ++ (index (suc i) ∷ []))) (sym (get_or-set_same s.bits i (Some p) None (omega (arith, g.long))))
+        (home-new W (suc i) bs es g.as_many b n a p j x v))
+    own_at i h a y l (no e) =
+        subst (Home W (suc y) (bs ++ (b ∷ [])) (es ++ (index (suc i) ∷ []))) (sym (get_or-set_other s.bits i y (Some p) None e))
+        (home-more W (suc y) bs es g.as_many (b ∷ []) (index (suc i) ∷ []) _ (λ r. (λ q. e (omega arith), tt)) (g.homes y l))
 
-      -- a bit's number, and each other bit's
-      own_at : (i : ℕ) → i < most_bits → Absent (suc i) (indexes es) → (x : ℕ) → x < most_bits → Dec (x ≡ i)
-          → Home W none (suc x) (bs ++ (b ∷ [])) (es ++ (index (suc i) ∷ [])) (get_or (set s.places i place) x 0) (get_or (set s.slots i slot) x 0) (get_or (set s.weights i weight) x 0)
-      own_at i h a x l (yes e) =
-          subst (λ (y : ℕ). Home W none (suc y) (bs ++ (b ∷ [])) (es ++ (index (suc i) ∷ [])) (get_or (set s.places i place) y 0) (get_or (set s.slots i slot) y 0) (get_or (set s.weights i weight) y 0)) (sym e)
-          (home_same (home-new W none (suc i) bs es g.as_many b n a)
-          (get_or-set_same s.places i place 0 (omega (arith, g.lengths.0)) ∙ p) (get_or-set_same s.slots i slot 0 (omega (arith, g.lengths.1)) ∙ o) (get_or-set_same s.weights i weight 0 (omega (arith, g.lengths.2)) ∙ v))
-      own_at i h a x l (no e) =
-          home_same (home-more W none (suc x) bs es g.as_many (b ∷ []) (index (suc i) ∷ []) _ _ _ (λ r. (λ q. e (omega arith), tt)) (g.homes x l))
-          (get_or-set_other s.places i x place 0 e) (get_or-set_other s.slots i x slot 0 e) (get_or-set_other s.weights i x weight 0 e)
-
-      -- a bit's
-      pub passed-own : (i : ℕ) → i < k → i < most_bits → Absent (suc i) (indexes es)
-          → Passed stage cell k W none (bs ++ (b ∷ [])) (es ++ (index (suc i) ∷ []))
-          (record { answer = s.answer; batch = s.batch; places = set s.places i place; slots = set s.slots i slot; weights = set s.weights i weight; free = s.free; free_slot = s.free_slot; free_weight = s.free_weight })
-      passed-own i h m a = record {
-        answer = g.answer;
-        batch = g.batch;
-        lengths = (length-set s.places i place ∙ g.lengths.0, length-set s.slots i slot ∙ g.lengths.1, length-set s.weights i weight ∙ g.lengths.2);
-        as_many = one_more (suc i);
-        names = subst (Names k) (sym (indexes-append es (index (suc i) ∷ []))) (names-new k i (indexes es) g.names h a);
-        homes = λ x l. own_at i m a x l (ℕ_discrete x i);
-        free = home-more W none 0 bs es g.as_many (b ∷ []) (index (suc i) ∷ []) _ _ _ (λ r. (λ e. omega arith, tt)) g.free;
-      }
+    -- a bit's
+    pub passed-own : (i : ℕ) → i < k → i < most_bits → Absent (suc i) (indexes es)
+        → Passed stage cell k W (bs ++ (b ∷ [])) (es ++ (index (suc i) ∷ [])) (with_own s i p)
+    passed-own i h m a = record {
+      answer = g.answer;
+      batch = g.batch;
+      long = length-set s.bits i (Some p) ∙ g.long;
+      as_many = one_more (suc i);
+      names = subst (Names k) (sym (indexes-append es (index (suc i) ∷ []))) (names-new k i (indexes es) g.names h a);
+      homes = λ y l. own_at i m a y l (ℕ_discrete y i);
+      free = home-more W 0 bs es g.as_many (b ∷ []) (index (suc i) ∷ []) _ (λ r. (λ e. omega arith, tt)) g.free;
+    }

@@ -1,18 +1,18 @@
 -- What follows from the scan of a stage: its check, the reading of each bit, and the place of a change. Assumes nothing.
 use mathlib.Core.List.{List, [], ◌∷◌, map}
-use Rattle.std.specs.Prelude.{◌≡◌, refl, ℕ, zero, suc, ◌-◌, ◌*◌, ◌%◌, ◌≤◌, ◌<◌, drop, get_or, set, take}
-use Rattle.std.proofs.Common.{◌∙◌, subst, sym, le_refl, mul-le-mul, arith, length-drop, length-take-le}
+use Rattle.std.specs.Prelude.{◌≡◌, refl, ℕ, zero, suc, ◌-◌, ◌*◌, ◌%◌, ◌≤◌, ◌<◌, drop, get_or, set, take, Option}
+use Rattle.std.proofs.Common.{◌∙◌, sym, le_refl, arith, length-drop, length-take-le}
 use Rattle.std.proofs.Math.Path.{ap, ap₂}
-use Rattle.std.proofs.Math.Decide.{ℕ_discrete, dec_lt}
+use Rattle.std.proofs.Math.Decide.{ℕ_discrete}
 use Rattle.std.proofs.Math.ListN.{get_or-map, length}
 use Rattle.std.proofs.lemmas.List.{length-map}
-use Rattle.laws.specs.Chop.{chop-sized, join-chop, length-chop}
+use Rattle.laws.specs.Chop.{join-chop, length-chop}
 use Rattle.laws.specs.Index.{free-zero, stored-entry}
-use Rattle.laws.specs.Lists.{low-drop, low-take, sum_low}
+use Rattle.laws.specs.Lists.{low-drop, low-take}
 use Rattle.laws.specs.Live.{live_block}
 use Rattle.laws.specs.LiveBlock.{live-block-in, live-block-open, live-block-sum, raise-live-set}
 use Rattle.laws.specs.Parts.{chop-take, get_or-chop, join-set, map-set}
-use Rattle.laws.specs.Stage.{Sized, absent-at, names-few, weight-at, weight-none}
+use Rattle.laws.specs.Stage.{absent-at, names-few, weight-at, weight-none}
 use Rattle.laws.specs.Regions.{steady-nothing}
 use Rattle.index.specs.Laws.{said-nothing}
 use Rattle.index.specs.Meaning.{said, whole_region}
@@ -20,27 +20,28 @@ use Rattle.rules.specs.Accept.{most_bits}
 use Rattle.rules.specs.Batches.{entry_cells, entry_of}
 use Rattle.rules.specs.Cells.{Low, block, chop, join, store, sum}
 use Rattle.rules.specs.Search.{Found, at, first, nowhere, pick}
-use Rattle.rules.specs.SearchLaws.{first-eq, hit, miss, pick-elim}
-use Rattle.rules.specs.Stage.{Absent, Entry, StageOk, beyond, change_within, chosen, closed, index, indexes, live_weights, raise, stay, value_of}
-use Rattle.stage.specs.Laws.{home-nowhere}
+use Rattle.rules.specs.SearchLaws.{first-eq, hit, miss}
+use Rattle.rules.specs.Stage.{Absent, Entry, Names, StageOk, beyond, change_within, chosen, closed, index, indexes, live_weights, raise, stay, value_of}
 use Rattle.stage.specs.LiveLaws.{open-entry-in, open-entry-is, set-live-set}
-use Rattle.stage.specs.Meaning.{FirstAt, Home, Near, Passed, PlaceWithin, StageFits, Own, Free, at-free, at_none, at_own, entries, entries_in, has, has_not, open_entry, place_in, plan_at, plan_in}
+use Rattle.stage.specs.Meaning.{FirstAt, Home, Near, Passed, PlaceWithin, StageFits, Own, Free, at-free, at_none, at_own, entries, entries_in, has, has_not, open_entry, own_or_free, place_in, ranked}
+use Rattle.plan.specs.Meaning.{value_in, weight_in}
 use Rattle.plan.specs.declared.Look.{Look}
+use Rattle.plan.specs.declared.Place.{Place}
 
 -- ---- the check and the reading
 
 -- a stage that a scan has passed keeps the rules
-pub stage-ok : {stage cell k W : ℕ} {bs : List (List ℕ)} {es : List Entry} {s : Look} → Passed stage cell k W (length bs) bs es s → StageOk k W bs es
+pub stage-ok : {stage cell k W : ℕ} {bs : List (List ℕ)} {es : List Entry} {s : Look} → Passed stage cell k W bs es s → StageOk k W bs es
 stage-ok p = (p.as_many, p.names)
 
 -- the block that the scan holds for a bit gives its value
-home-read : (W none i : ℕ) (bs : List (List ℕ)) (es : List Entry) (p o v : ℕ) → length (indexes es) ≡ length (live_weights W bs) → Home W none (suc i) bs es p o v → value_of W bs es i ≡ v % 2
-home-read W none i bs es p o v m (has t f a b c) = ap (λ (x : ℕ). x % 2) (weight-at (suc i) t (indexes es) (live_weights W bs) m f.inside f.there f.earlier ∙ sym c)
-home-read W none i bs es p o v m (has_not n a b c) = ap (λ (x : ℕ). x % 2) (weight-none (suc i) (indexes es) (live_weights W bs) n ∙ sym c)
+home-read : (W i : ℕ) (bs : List (List ℕ)) (es : List Entry) (o : Option Place) → length (indexes es) ≡ length (live_weights W bs) → Home W (suc i) bs es o → value_of W bs es i ≡ weight_in o % 2
+home-read W i bs es o m (has t f) = ap (λ (x : ℕ). x % 2) (weight-at (suc i) t (indexes es) (live_weights W bs) m f.inside f.there f.earlier)
+home-read W i bs es o m (has_not n) = ap (λ (x : ℕ). x % 2) (weight-none (suc i) (indexes es) (live_weights W bs) n)
 
 -- each bit reads as the rules say
-pub stage-read : {stage cell k W : ℕ} {bs : List (List ℕ)} {es : List Entry} {s : Look} → Passed stage cell k W (length bs) bs es s → (i : ℕ) → i < most_bits → value_of W bs es i ≡ get_or s.weights i 0 % 2
-stage-read {W = W} {bs} {es} p i l = home-read W (length bs) i bs es _ _ _ p.as_many (p.homes i l)
+pub stage-read : {stage cell k W : ℕ} {bs : List (List ℕ)} {es : List Entry} {s : Look} → Passed stage cell k W bs es s → (i : ℕ) → i < most_bits → value_of W bs es i ≡ value_in s.bits i
+stage-read {W = W} {bs} {es} p i l = home-read W i bs es _ p.as_many (p.homes i l)
 
 -- ---- the change, by ranks
 
@@ -142,7 +143,7 @@ module _ (cell len count w k L : ℕ) (cells batch : List ℕ) (f : StageFits le
 
   -- a change at the bit's own block, of rank t
   own-place : (i t : ℕ) → FirstAt (suc i) (indexes (entries L w (2 * (k - 1)) batch)) t
-      → PlaceWithin len count w k L i cells batch (Own (live_block (len * L) t (chop len count cells)) (open_entry t (entries L w (2 * (k - 1)) batch)) (get_or (live_weights (len * L) (chop len count cells)) t 0))
+      → PlaceWithin len count w k L i cells batch (Own (ranked (len * L) t (chop len count cells) (entries L w (2 * (k - 1)) batch)))
   own-place i t r =
       let W : ℕ = len * L in
       let bs : List (List ℕ) = chop len count cells in
@@ -150,7 +151,7 @@ module _ (cell len count w k L : ℕ) (cells batch : List ℕ) (f : StageFits le
       let l : t < length (live_weights W bs) = omega (arith, r.inside) in
       let j : ℕ = live_block W t bs in
       let b : get_or bs j [] ≡ block len cells j = get_or-chop len count cells j (block_in t r.inside) in
-      at_own _ _ _ (record {
+      at_own _ (record {
         in_cells = block_in t r.inside;
         in-batch = entry_in t r.inside;
         weight = live-block-sum W t bs l ∙ ap sum b;
@@ -163,7 +164,7 @@ module _ (cell len count w k L : ℕ) (cells batch : List ℕ) (f : StageFits le
 
   -- a change at the first free block, of rank t
   free-place : (i t : ℕ) → Absent (suc i) (indexes (entries L w (2 * (k - 1)) batch)) → FirstAt 0 (indexes (entries L w (2 * (k - 1)) batch)) t
-      → PlaceWithin len count w k L i cells batch (Free (live_block (len * L) t (chop len count cells)) (open_entry t (entries L w (2 * (k - 1)) batch)) (get_or (live_weights (len * L) (chop len count cells)) t 0))
+      → PlaceWithin len count w k L i cells batch (Free (ranked (len * L) t (chop len count cells) (entries L w (2 * (k - 1)) batch)))
   free-place i t o r =
       let W : ℕ = len * L in
       let bs : List (List ℕ) = chop len count cells in
@@ -171,7 +172,7 @@ module _ (cell len count w k L : ℕ) (cells batch : List ℕ) (f : StageFits le
       let l : t < length (live_weights W bs) = omega (arith, r.inside) in
       let j : ℕ = live_block W t bs in
       let b : get_or bs j [] ≡ block len cells j = get_or-chop len count cells j (block_in t r.inside) in
-      at-free _ _ _ (record {
+      at-free _ (record {
         in_cells = block_in t r.inside;
         in-batch = entry_in t r.inside;
         weight = live-block-sum W t bs l ∙ ap sum b;
@@ -181,76 +182,26 @@ module _ (cell len count w k L : ℕ) (cells batch : List ℕ) (f : StageFits le
         batch-after = entries-set L w (2 * (k - 1)) batch f.indexed.holds (steady-nothing L batch f.indexed.steady) (open_entry t es) (index (suc i)) (entry_in t r.inside);
       }) (free-zero L w (block w batch (open_entry t es)) (entry-is t r.inside ∙ ap index r.there))
 
-  -- the block that the scan holds for the bit is its own
-  own_home : (i place slot weight : ℕ) → Home (len * L) (length (chop len count cells)) (suc i) (chop len count cells) (entries L w (2 * (k - 1)) batch) place slot weight
-      → place < count → PlaceWithin len count w k L i cells batch (Own place slot weight)
-  own_home i place slot weight (has t r p o v) h = subst (PlaceWithin len count w k L i cells batch) (cc) (own-place i t r)
-  own_home i place slot weight (has_not n p o v) h = absurd (omega (arith, length-chop len count cells))
-
-  -- the block that it holds for 0 is the first free one
-  free-home : (i place slot weight : ℕ) → Absent (suc i) (indexes (entries L w (2 * (k - 1)) batch))
-      → Home (len * L) (length (chop len count cells)) 0 (chop len count cells) (entries L w (2 * (k - 1)) batch) place slot weight
-      → place < count → PlaceWithin len count w k L i cells batch (Free place slot weight)
-  free-home i place slot weight a (has t r p o v) h = subst (PlaceWithin len count w k L i cells batch) (cc) (free-place i t a r)
-  free-home i place slot weight a (has_not n p o v) h = absurd (omega (arith, length-chop len count cells))
+  -- the blocks that the scan holds for the bit and for 0 are its own and the first free one
+  placed : (i : ℕ) → i < k → Names k (indexes (entries L w (2 * (k - 1)) batch)) → (own free : Option Place)
+      → Home (len * L) (suc i) (chop len count cells) (entries L w (2 * (k - 1)) batch) own
+      → Home (len * L) 0 (chop len count cells) (entries L w (2 * (k - 1)) batch) free
+      → PlaceWithin len count w k L i cells batch (own_or_free own free)
+  placed i h n own free (has t r) g = own-place i t r
+  placed i h n own free (has_not a) (has t r) = free-place i t a r
+  placed i h n own free (has_not a) (has_not b) =
+      let es : List Entry = entries L w (2 * (k - 1)) batch in
+      at_none (within_none (len * L) L i (chop len count cells) es as_many a b) (omega (arith, as_many, names-few k i (indexes es) n h b a))
 
 -- the scan's place for a bit is where the rules make the change
 pub stage-place : {stage cell len count w k L : ℕ} {cells batch : List ℕ} {s : Look} → StageFits len count (whole_region cell w L) k L cells batch
-    → Passed stage cell k (len * L) (length (chop len count cells)) (chop len count cells) (entries L w (2 * (k - 1)) batch) s
-    → (i : ℕ) → i < k → PlaceWithin len count w k L i cells batch (place_in s i count)
-unfolding place_in
-stage-place {cell = cell} {len} {count} {w} {k} {L} {cells} {batch} {s} f r i h =
-    let W : ℕ = len * L in
-    let bs : List (List ℕ) = chop len count cells in
-    let es : List Entry = entries L w (2 * (k - 1)) batch in
-    let c : length bs ≡ count = length-chop len count cells in
-    pick-elim (PlaceWithin len count w k L i cells batch) (dec_lt (get_or s.places i 0) count) _ _
-    (λ l. own_home cell len count w k L cells batch f r.as_many i _ _ _ (r.homes i (omega (arith, f.few))) l)
-    (λ n. let a : Absent (suc i) (indexes es) = home-nowhere W (length bs) (suc i) bs es r.as_many (omega arith) _ _ _ (r.homes i (omega (arith, f.few))) (λ l. n (omega arith)) in
-    pick-elim (PlaceWithin len count w k L i cells batch) (dec_lt s.free count) _ _
-    (λ l. free-home cell len count w k L cells batch f r.as_many i _ _ _ a r.free l)
-    (λ m. let b : Absent 0 (indexes es) = home-nowhere W (length bs) 0 bs es r.as_many (omega arith) _ _ _ r.free (λ l. m (omega arith)) in
-    at_none (within_none W L i bs es r.as_many a b) (omega (arith, r.as_many, names-few k i (indexes es) r.names h b a))))
-
--- the scan's plan is that of its place
-pub plan-placed : (s : Look) (i count w W : ℕ) → plan_in s i count w W ≡ plan_at s.batch w W (place_in s i count)
-unfolding plan_in place_in
-plan-placed s i count w W =
-    sym (pick-through (dec_lt (get_or s.places i 0) count) (plan_at s.batch w W) refl (pick-through (dec_lt s.free count) (plan_at s.batch w W) refl refl))
+    → Passed stage cell k (len * L) (chop len count cells) (entries L w (2 * (k - 1)) batch) s
+    → (i : ℕ) → i < k → PlaceWithin len count w k L i cells batch (place_in s i)
+stage-place {cell = cell} {len} {count} {w} {k} {L} {cells} {batch} f r i h =
+    placed cell len count w k L cells batch f r.as_many i h r.names _ _ (r.homes i (omega (arith, f.few))) r.free
 
 -- ---- small numbers
 
--- a live block weighs no more than a full one
-weight-most : (w L W t : ℕ) (bs : List (List ℕ)) → Sized w L bs → get_or (live_weights W bs) t 0 ≤ w * L
-weight-most w L W t [] h = omega arith
-weight-most w L W t (b ∷ bs) h = pick-elim (λ ws. get_or ws t 0 ≤ w * L) (ℕ_discrete (sum b) W) (live_weights W bs) (sum b ∷ live_weights W bs) (λ e. weight-most w L W t bs h.2) (λ n. front t (λ x. weight-most w L W x bs h.2))
-  where
-    front : (t : ℕ) → ((x : ℕ) → get_or (live_weights W bs) x 0 ≤ w * L) → get_or (sum b ∷ live_weights W bs) t 0 ≤ w * L
-    front zero f = subst (λ (x : ℕ). sum b ≤ x * L) h.0 (sum_low L b h.1)
-    front (suc t) f = f t
-
--- the index block that a scan holds is one of the stage's
-home-slot : (W none u : ℕ) (bs : List (List ℕ)) (es : List Entry) (p o v : ℕ) → Home W none u bs es p o v → o ≤ length es
-home-slot W none u bs es p o v (has t f a b c) = omega (arith, open-entry-in t es f.inside)
-home-slot W none u bs es p o v (has_not n a b c) = omega arith
-
--- and the weight no more than that of a full block
-home-weight : (W none u w L : ℕ) (bs : List (List ℕ)) (es : List Entry) (p o v : ℕ) → Sized w L bs → Home W none u bs es p o v → v ≤ w * L
-home-weight W none u w L bs es p o v s (has t f a b c) = omega (arith, weight-most w L W t bs s)
-home-weight W none u w L bs es p o v s (has_not n a b c) = omega arith
-
--- what a scan that found the rules kept tells of a bit is small
-pub scan-near : {stage cell len count w k L : ℕ} {cells batch : List ℕ} {s : Look} → StageFits len count (whole_region cell w L) k L cells batch → len ≤ most_bits → L ≤ 255 → cell ≤ 65536 → w ≤ 65536
-    → Passed stage cell k (len * L) (length (chop len count cells)) (chop len count cells) (entries L w (2 * (k - 1)) batch) s
-    → (i : ℕ) → i < most_bits → Near s i w
-scan-near {len = len} {count} {w} {k} {L} {cells} {batch} f a b c d r i h =
-    let bs : List (List ℕ) = chop len count cells in
-    let es : List Entry = entries L w (2 * (k - 1)) batch in
-    let m : length es ≡ 2 * (k - 1) = length-map (chop w (2 * (k - 1)) batch) (entry_of L w) ∙ length-chop w (2 * (k - 1)) batch in
-    record {
-      batch = omega (arith, r.batch);
-      slot = omega (arith, home-slot (len * L) (length bs) (suc i) bs es _ _ _ (r.homes i h), f.few);
-      weight = omega (arith, home-weight (len * L) (length bs) (suc i) len L bs es _ _ _ (chop-sized len L count cells f.inside f.low) (r.homes i h), mul-le-mul a b);
-      free = omega (arith, home-slot (len * L) (length bs) 0 bs es _ _ _ r.free, f.few);
-      width = d;
-    }
+-- what a scan that found the rules kept tells is small
+pub scan-near : {stage cell k W w : ℕ} {bs : List (List ℕ)} {es : List Entry} {s : Look} → cell ≤ 65536 → w ≤ 65536 → Passed stage cell k W bs es s → Near s w
+scan-near c d r = record { batch = omega (arith, r.batch); width = d }

@@ -1,6 +1,6 @@
 -- Where the parts of a staged sheet stand: everything lies inside the n cells. Assumes nothing.
 use Rattle.std.specs.Prelude.{◌≡◌, ℕ, suc, ◌+◌, ◌-◌, ◌*◌, ◌^◌, ◌≤◌, ◌<◌}
-use Rattle.std.proofs.Common.{sym, ap, subst, mul-le-mul_right, le-mul_of_pos_right, pow-suc, arith, pow_mono, pow_pos}
+use Rattle.std.proofs.Common.{sym, ap, ap₂, ◌∙◌, subst, mul-le-mul_right, le-mul_of_pos_right, pow-suc, arith, pow_mono, pow_pos}
 use Rattle.rules.specs.AcceptLaws.{StagedFacts, staged-inside}
 use Rattle.rules.specs.Batches.{batch_cells}
 use Rattle.rules.specs.Staged.{parity_length, parity_count}
@@ -51,3 +51,7 @@ module _ (r : Settings) (f : StagedFacts r) where
   count_most d h =
       let p : 0 < parity_length d = omega (arith, pow_pos d) in
       omega (arith, parity-cells d h, cells-most, le-mul_of_pos_right (parity_count r.s r.m d) p)
+
+  -- so the parity blocks of a stage are the m blocks cut anew
+  pub parity-cut : (d len count : ℕ) → d ≤ r.s - 1 → len ≡ parity_length d → count ≡ parity_count r.s r.m d → (1 ≤ len) × (len ≤ r.k) × (count * len ≡ r.m * 2 ^ r.s)
+  parity-cut d len count h e₁ e₂ = (omega (arith, e₁, pow_pos d), omega (arith, e₁, length_most d h), ap₂ (λ (x y : ℕ). x * y) e₂ e₁ ∙ parity-cells d h)

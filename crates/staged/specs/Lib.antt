@@ -1,5 +1,6 @@
 -- Staged sheets of accepted settings: what their parts are, what a look finds, and the laws of a change.
 pub mod Meaning
+pub mod Props
 pub mod TagLaws
 pub mod LentLaws
 pub mod LayoutLaws

@@ -1,5 +1,5 @@
 -- The parts of a staged sheet, what a look at it finds, and a change that its stage has no place for. Assumes nothing.
-use Rattle.std.specs.Prelude.{◌≢◌, ◌≡◌, List, ℕ, suc, ◌+◌, ◌-◌, ◌*◌, ◌%◌, ◌^◌, ◌≤◌, ◌<◌, length, get_or, replicate}
+use Rattle.std.specs.Prelude.{◌≢◌, ◌≡◌, List, Option, ℕ, suc, ◌+◌, ◌-◌, ◌*◌, ◌^◌, ◌≤◌, ◌<◌, replicate}
 use Rattle.std.proofs.Math.Decide.{dec_lt}
 use Rattle.rules.specs.Batches.{batch, batch_cells, decode, digits, index_cells}
 use Rattle.rules.specs.Cells.{sum, tabulate}
@@ -8,12 +8,14 @@ use Rattle.rules.specs.Search.{Found, at, first, nowhere}
 use Rattle.rules.specs.Staged.{after, change, index_blocks, later, live_count, parity_blocks, parity_count, parity_length}
 use Rattle.rules.specs.declared.Answer.TheVariants.{Done}
 use Rattle.rules.specs.declared.Settings.{Settings}
-use Rattle.moving.specs.declared.ParityBlocks.{ParityBlocks}
+use Rattle.cells.specs.declared.blocks.Blocks.{Blocks}
+use Rattle.moving.specs.declared.route.ParityBlocks.{ParityBlocks}
 use Rattle.index.specs.declared.Region.{Region}
 use Rattle.plain.specs.Meaning.{Scanned}
 use Rattle.laws.specs.Splice.{part}
-use Rattle.plan.specs.Meaning.{IndexFits, LookOf, NeedsMore, ParityFits, Planned, m_blocks}
+use Rattle.plan.specs.Meaning.{IndexFits, LookOf, NeedsMore, ParityFits, Planned, m_blocks, value_in}
 use Rattle.plan.specs.declared.Look.{Look}
+use Rattle.plan.specs.declared.Place.{Place}
 use Rattle.plan.specs.declared.Plan.{Plan}
 use Rattle.plan.specs.declared.Need.{Need}
 use Rattle.plan.specs.declared.Plan.TheVariants.{Close, Move, Nowhere, Raise, Step, Take}
@@ -49,8 +51,7 @@ ScannedAt r f d s = StageScanned (r.s - 1 - d) (batch_at r d) (2 ^ r.s) (parity_
 -- one that found the stage's rules kept
 abbrev pub PassedAt : Settings → List ℕ → ℕ → Look → Type 0
 PassedAt r f d s =
-    let bs = parity_blocks r.s r.m d (m_blocks r f) in
-    Passed (r.s - 1 - d) (batch_at r d) (2 ^ r.s) (parity_length d * r.top) (length bs) bs (entries r.top r.w (index_blocks r.s) (stage_batch r f d)) s
+    Passed (r.s - 1 - d) (batch_at r d) (2 ^ r.s) (parity_length d * r.top) (parity_blocks r.s r.m d (m_blocks r f)) (entries r.top r.w (index_blocks r.s) (stage_batch r f d)) s
 
 -- where the stage with d left has its index blocks: their first cell and width, from level 0 up to L
 abbrev pub region_at : Settings → ℕ → Region
@@ -59,6 +60,17 @@ region_at r d = record { cell = batch_at r d; width = r.w; floor = 0; step = r.t
 -- its parity blocks
 abbrev pub parity_at : Settings → ℕ → ParityBlocks
 parity_at r d = record { len = parity_length d; count = parity_count r.s r.m d }
+
+-- blocks that are the cells of the m blocks, cut into n blocks of w cells
+pub record CutInto (r : Settings) (f : List ℕ) (w n : ℕ) (b : Blocks) : Type 0 where
+  pub len : b.len ≡ w
+  pub count : b.count ≡ n
+  pub top : b.top ≡ r.top
+  pub cells : b.cells.now ≡ m_blocks r f
+
+-- the parity blocks of the stage with d left
+abbrev pub ParityCut : Settings → List ℕ → ℕ → Blocks → Type 0
+ParityCut r f d b = CutInto r f (parity_length d) (parity_count r.s r.m d) b
 
 -- ---- what a look finds
 
@@ -93,18 +105,18 @@ abbrev pub index_at : Settings → ℕ → ℕ → ℕ
 index_at r d x = batch_at r d + x * r.w
 
 -- a change that the stage with d left has no place for: fewer than k parity blocks are live; later batches are all 0;
--- and it goes on to a later stage, with the values that the weights give, once bit i is changed
-pub record Stuck (r : Settings) (f : List ℕ) (i d : ℕ) (ws : List ℕ) : Type 0 where
+-- and it goes on to a later stage, with the values of the bits' blocks, once bit i is changed
+pub record Stuck (r : Settings) (f : List ℕ) (i d : ℕ) (bits : List (Option Place)) : Type 0 where
   pub left : d ≤ r.s - 1
   pub few : live_count r.s r.m r.top d (m_blocks r f) < 2 ^ r.s
   pub dark : (e : ℕ) → e < d → sum (batch r.s r.m r.w f e) ≡ 0
   pub goes : change r.s r.m r.top i (decode r.s r.m r.top r.w f)
-      ≡ later r.s r.m r.top d (m_blocks r f) (tabulate (2 ^ r.s) (after i (λ y. get_or ws y 0 % 2)))
+      ≡ later r.s r.m r.top d (m_blocks r f) (tabulate (2 ^ r.s) (after i (value_in bits)))
 
 -- a plan of the change in the stage that a look found, or that it has no place there
 pub record StagePlan (r : Settings) (f : List ℕ) (i d : ℕ) (b : Look) (p : Plan) : Type 0 where
-  pub here : p ≢ Nowhere → Planned r f i d b.weights p
-  pub beyond : p ≡ Nowhere → Stuck r f i d b.weights
+  pub here : p ≢ Nowhere → Planned r f i d b.bits p
+  pub beyond : p ≡ Nowhere → Stuck r f i d b.bits
 
 -- the plan of a change that goes on to a later stage: the move there, or no place
 abbrev pub later_plan : Found → Plan

@@ -13,12 +13,14 @@ use Rattle.rules.specs.AcceptLaws.{StagedFacts, staged-bits}
 use Rattle.rules.specs.declared.Settings.{Settings}
 use Rattle.laws.specs.Lists.{low-take, low-drop}
 use Rattle.laws.specs.Regions.{low-steady}
-use Rattle.index.specs.Meaning.{whole_region}
-use Rattle.stage.specs.Meaning.{entries, entries_in, StageFits, StageScanned, right, wrong}
+use Rattle.cells.specs.declared.blocks.Blocks.{Blocks}
+use Rattle.index.specs.Meaning.{BatchFits, whole_region}
+use Rattle.index.specs.declared.Region.{Region}
+use Rattle.stage.specs.Meaning.{entries, entries_in, ScanFits, StageFits, StageScanned, right, wrong}
 use Rattle.stage.specs.PlaceLaws.{entries-whole, stage-ok, stage-read}
 use Rattle.plan.specs.declared.Look.{Look}
 use Rattle.plan.specs.Meaning.{Levelled, breaks, keeps, m_blocks}
-use Rattle.staged.specs.Meaning.{AtStage, batch_at, seen-later, ScannedAt, stage_batch, StagedLook}
+use Rattle.staged.specs.Meaning.{AtStage, batch_at, ParityCut, region_at, seen-later, ScannedAt, stage_batch, StagedLook}
 use Rattle.staged.specs.LayoutLaws.{cells-most, length_most, parity-cells}
 use Rattle.staged.specs.StageLaws.{stage-sound, sound-stage, read-stage, batch-length, batch-part}
 use Rattle.staged.specs.ZeroLaws.{cells_in}
@@ -62,29 +64,39 @@ module _ (r : Settings) (p : StagedFacts r) (f : List ℕ) (v : Levelled r f) wh
           indexed = record { holds = omega (arith, batch-length r p f v d h); narrow = narrow; steady = low-steady r.top (stage_batch r f d) batch-low };
         }
 
-    module _ (c a b len count : ℕ) (e₁ : c ≡ r.m * 2 ^ r.s) (e₂ : a ≡ r.m * 2 ^ r.s + (r.s - 2 - d) * batch_cells r.s r.w) (e₃ : b ≡ batch_cells r.s r.w)
-        (e₄ : len ≡ parity_length d) (e₅ : count ≡ parity_count r.s r.m d) where
-      lent : take (a + b - a) (drop a f) ≡ stage_batch r f d
-      lent = let q : a + b - a ≡ batch_cells r.s r.w = omega arith in ap (λ (x : ℕ). take x (drop a f)) q ∙ batch-part r p f d a e₂
+    -- the same for the parity blocks, the region and its cells as they are lent
+    module _ (b : Blocks) (c : ParityCut r f d b) (g : Region) (y : g ≡ region_at r d) (n : ℕ) (e : n ≡ batch_cells r.s r.w) where
+      lent : take (g.cell + n - g.cell) (drop g.cell f) ≡ stage_batch r f d
+      lent =
+          let q : g.cell + n - g.cell ≡ batch_cells r.s r.w = omega arith in
+          ap (λ (x : ℕ). take x (drop g.cell f)) q ∙ batch-part r p f d g.cell (ap (λ (z : Region). z.cell) y)
 
-      cut : take c f ≡ m_blocks r f
-      cut = ap (λ (x : ℕ). take x f) e₁
-
-      -- what the scan asks for, as they are lent
-      pub stage-asks : StageFits len count (whole_region a r.w r.top) r.k r.top (take c f) (take (a + b - a) (drop a f))
-      stage-asks = subst₂ (λ (xs ys : List ℕ). StageFits len count (whole_region a r.w r.top) r.k r.top xs ys) (sym cut) (sym lent)
-          (subst₂ (λ (x y : ℕ). StageFits x y (whole_region a r.w r.top) r.k r.top (m_blocks r f) (stage_batch r f d)) (sym e₄) (sym e₅)
-          (subst₂ (λ (x k : ℕ). StageFits (parity_length d) (parity_count r.s r.m d) (whole_region x r.w r.top) k r.top (m_blocks r f) (stage_batch r f d)) (sym e₂) p.bits stage-fits))
+      -- what the scan asks for
+      pub scan-asked : ScanFits b g r.k (take (g.cell + n - g.cell) (drop g.cell f))
+      scan-asked =
+          let k : (4 ≤ r.k) × (r.k ≤ most_bits) = staged-bits r p in
+          record {
+            bits = omega (arith, k.0);
+            few = k.1;
+            long = omega (arith, c.len, pow_pos d);
+            brief = omega (arith, c.len, length_most r p d (omega arith));
+            level = omega (arith, c.top, p.top_least);
+            indexed = subst₂ (λ (z : Region) (xs : List ℕ). BatchFits z (2 * (r.k - 1)) xs) (sym y) (sym lent)
+                (subst (λ (x : ℕ). BatchFits (region_at r d) (2 * (x - 1)) (stage_batch r f d)) p.bits stage-fits.indexed);
+          }
 
       -- and what it says of the stage
-      pub stage-told : (x : ℕ) (s : Look) → x ≡ r.s - 1 - d → StageScanned x a r.k (len * r.top) (chop len count (take c f)) (entries_in (whole_region a r.w r.top) (2 * (r.k - 1)) (take (a + b - a) (drop a f))) s → ScannedAt r f d s
-      stage-told x s e g =
-          let z : ℕ = r.s - 1 - d in
-          subst (λ (k : ℕ). StageScanned z (batch_at r d) k (parity_length d * r.top) (parity_blocks r.s r.m d (m_blocks r f)) (entries r.top r.w (2 * (k - 1)) (stage_batch r f d)) s) (sym p.bits)
-          (subst₂ (λ (y n : ℕ). StageScanned z (batch_at r d) r.k (y * r.top) (chop y n (m_blocks r f)) (entries r.top r.w (2 * (r.k - 1)) (stage_batch r f d)) s) e₄ e₅
-          (subst₂ (λ (y n : ℕ). StageScanned y n r.k (len * r.top) (chop len count (m_blocks r f)) (entries r.top r.w (2 * (r.k - 1)) (stage_batch r f d)) s) e e₂
-          (subst₂ (λ (xs ys : List ℕ). StageScanned x a r.k (len * r.top) (chop len count xs) (entries r.top r.w (2 * (r.k - 1)) ys) s) cut lent
-          (subst (λ (es : List Entry). StageScanned x a r.k (len * r.top) (chop len count (take c f)) es s) (entries-whole a r.w r.top (2 * (r.k - 1)) (take (a + b - a) (drop a f))) g))))
+      pub scan-told : (x : ℕ) (s : Look) → x ≡ r.s - 1 - d
+          → StageScanned x g.cell r.k (b.len * b.top) (chop b.len b.count b.cells.now) (entries_in g (2 * (r.k - 1)) (take (g.cell + n - g.cell) (drop g.cell f))) s → ScannedAt r f d s
+      scan-told x s q t =
+          let v : ℕ = r.s - 1 - d in
+          let q' : ℕ = 2 * (r.k - 1) in
+          subst (λ (k : ℕ). StageScanned v (batch_at r d) k (parity_length d * r.top) (parity_blocks r.s r.m d (m_blocks r f)) (entries r.top r.w (2 * (k - 1)) (stage_batch r f d)) s) (sym p.bits)
+          (subst₂ (λ (l m : ℕ). StageScanned v (batch_at r d) r.k (l * r.top) (chop l m (m_blocks r f)) (entries r.top r.w q' (stage_batch r f d)) s) c.len c.count
+          (subst₂ (λ (L : ℕ) (xs : List ℕ). StageScanned v (batch_at r d) r.k (b.len * L) (chop b.len b.count xs) (entries r.top r.w q' (stage_batch r f d)) s) c.top c.cells
+          (subst (λ (es : List Entry). StageScanned v (batch_at r d) r.k (b.len * b.top) (chop b.len b.count b.cells.now) es s) (entries-whole (batch_at r d) r.w r.top q' (stage_batch r f d))
+          (subst (λ (z : Region). StageScanned v z.cell r.k (b.len * b.top) (chop b.len b.count b.cells.now) (entries_in z q' (stage_batch r f d)) s) y
+          (subst₂ (λ (u : ℕ) (xs : List ℕ). StageScanned u g.cell r.k (b.len * b.top) (chop b.len b.count b.cells.now) (entries_in g q' xs) s) q lent t)))))
 
   -- a scan of the stage is a look at the whole sheet
   pub stage-look : (d : ℕ) → AtStage r f (at d) → (s : Look) → ScannedAt r f d s → StagedLook r f s

@@ -3,7 +3,7 @@ use Rattle.std.specs.Prelude.{◌≡◌, refl, List, ℕ, ◌-◌, ◌*◌, ◌^
 use Rattle.std.proofs.Common.{ap, subst, arith}
 use Rattle.rules.specs.AcceptLaws.{StagedFacts}
 use Rattle.rules.specs.Calls.{as_check}
-use Rattle.rules.specs.Staged.{parity_count, parity_length}
+use Rattle.rules.specs.Staged.{parity_length}
 use Rattle.rules.specs.declared.Settings.{Settings}
 use Rattle.plain.specs.Meaning as P
 use Rattle.plan.specs.Meaning.{Levelled}
@@ -39,25 +39,25 @@ module _ (r : Settings) (p : StagedFacts r) (f : List ℕ) (b : Look) (v : ℕ) 
 
   module _ (u : Levelled r f) (i : ℕ) (l : i < r.k) where
     -- at stage 0: the plan among the m blocks
-    pub zero-plan : v ≡ 0 → (m : ℕ) → m ≡ r.m → StagePlan r f i (r.s - 1 - v) b (P.plan_in b i m)
-    zero-plan e m q =
+    pub zero-plan : v ≡ 0 → StagePlan r f i (r.s - 1 - v) b (P.plan_in b i)
+    zero-plan e =
         let h : SeenZero r f b = at_zero s e in
         let z : r.s - 1 ≡ r.s - 1 - v = omega arith in
-        subst (λ (x : ℕ). StagePlan r f i x b (P.plan_in b i m)) z (record {
-          here = zero-planned r p f u h.stage (r.m * 2 ^ r.s) refl b h.blocks (ap as_check h.passed) i m (r.s - 1) b.weights l q;
-          beyond = zero-stuck r p f u h.stage (r.m * 2 ^ r.s) refl b h.blocks (ap as_check h.passed) i m l q;
+        subst (λ (x : ℕ). StagePlan r f i x b (P.plan_in b i)) z (record {
+          here = zero-planned r p f u h.stage (r.m * 2 ^ r.s) refl b h.blocks (ap as_check h.passed) i (r.s - 1) b.bits l;
+          beyond = zero-stuck r p f u h.stage (r.m * 2 ^ r.s) refl b h.blocks (ap as_check h.passed) i l;
         })
 
-    module _ (n : ¬ (v ≡ 0)) (count w full : ℕ) (e₁ : count ≡ parity_count r.s r.m (r.s - 1 - v)) (e₂ : w ≡ r.w) (e₃ : full ≡ parity_length (r.s - 1 - v) * r.top) where
+    module _ (n : ¬ (v ≡ 0)) (w full : ℕ) (e₂ : w ≡ r.w) (e₃ : full ≡ parity_length (r.s - 1 - v) * r.top) where
       -- at a later stage: the plan among its parity blocks
-      pub later-plan : StagePlan r f i (r.s - 1 - v) b (plan_in b i count w full)
+      pub later-plan : StagePlan r f i (r.s - 1 - v) b (plan_in b i w full)
       later-plan =
           let h : SeenStage r f (r.s - 1 - v) b = at-later s n in
           record {
-            here = within-planned r p f u i (r.s - 1 - v) h.stage b h.passed l count w full e₁ e₂ e₃ b.weights;
-            beyond = within-stuck r p f u i (r.s - 1 - v) h.stage b h.passed l count w full e₁ e₂ e₃;
+            here = within-planned r p f u i (r.s - 1 - v) h.stage b h.passed l w full e₂ e₃ b.bits;
+            beyond = within-stuck r p f u i (r.s - 1 - v) h.stage b h.passed l w full e₂ e₃;
           }
 
       -- what the look tells there is small
-      pub later-near : Near b i w
-      later-near = let h : SeenStage r f (r.s - 1 - v) b = at-later s n in within-near r p f u i (r.s - 1 - v) h.stage b h.passed l count w full e₁ e₂ e₃
+      pub later-near : Near b w
+      later-near = let h : SeenStage r f (r.s - 1 - v) b = at-later s n in within-near r p f u i (r.s - 1 - v) h.stage b h.passed l w full e₂ e₃

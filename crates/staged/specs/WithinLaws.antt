@@ -1,11 +1,11 @@
 -- Laws of a change at a stage from 1 up: the plan in the stage, or that it has no place, and the cells as they are put back over the sheet. Assumes nothing.
-use Rattle.std.specs.Prelude.{◌≡◌, refl, List, ◌++◌, map, ◌≢◌, take, drop, replicate, set}
+use Rattle.std.specs.Prelude.{◌≡◌, refl, List, Option, ◌++◌, map, ◌≢◌, take, drop, replicate, set}
 use Rattle.std.proofs.Math.Path.{sym, ap}
 use Rattle.std.proofs.Common.{ap₂, ◌∙◌, subst, subst₂, mul-le-mul, mul-le-mul_right, length-append, length-drop, take-append-drop, length-take-le, take_all}
 use Prim.Native.Nat.{ℕ, zero, suc, ◌+◌, ◌-◌, ◌*◌, ◌%◌, ◌^◌, ◌≤◌, ◌<◌}
 use Rattle.std.proofs.Math.Decide.{ℕ_discrete}
 use native.Mathlib.Omega.{arith}
-use Rattle.std.proofs.Math.ListN.{length, get_or}
+use Rattle.std.proofs.Math.ListN.{length}
 use Rattle.std.proofs.lemmas.List.{length-replicate}
 use Rattle.std.proofs.Math.Seq.{drop-append-add}
 use Rattle.rules.specs.Accept.{most_bits}
@@ -26,11 +26,12 @@ use Rattle.laws.specs.Lists.{low-append, low-drop, low-take, tabulate-same}
 use Rattle.laws.specs.Put.{put-store}
 use Rattle.laws.specs.Splice.{part, part-part, spliced}
 use Rattle.laws.specs.Stage.{raise-length, raise-low, raise-sum}
-use Rattle.plan.specs.Meaning.{Fits, IndexFits, Levelled, ParityFits, Planned, m_blocks, parity_raised, raised_blocks}
+use Rattle.plan.specs.Meaning.{Fits, IndexFits, Levelled, ParityFits, Planned, m_blocks, parity_raised, raised_blocks, value_in}
 use Rattle.plan.specs.declared.Look.{Look}
+use Rattle.plan.specs.declared.Place.{Place}
 use Rattle.plan.specs.declared.Plan.TheVariants.{Close, Nowhere, Raise, Take}
 use Rattle.stage.specs.Meaning.{Beyond, Free, Near, Own, StagePlace, Stays, at-free, at_none, at_own, entries, place_in, plan_at, plan_in}
-use Rattle.stage.specs.PlaceLaws.{plan-placed, scan-near, stage-place, stage-read}
+use Rattle.stage.specs.PlaceLaws.{scan-near, stage-place, stage-read}
 use Rattle.staged.specs.LayoutLaws.{batch-inside, length_most, parity-cells}
 use Rattle.staged.specs.Meaning.{AtStage, PassedAt, PlaceAt, Stuck, batch_at, index_at, stage_batch}
 use Rattle.staged.specs.ScanLaws.{stage-fits}
@@ -42,8 +43,8 @@ abbrev batch_set : Settings → List ℕ → ℕ → List ℕ → List ℕ
 batch_set r f d b = store (batch_cells r.s r.w) (drop (r.m * 2 ^ r.s) f) (r.s - 2 - d) b
 
 -- a change of bit i that stays in that stage
-abbrev StaysAt : Settings → List ℕ → ℕ → ℕ → ℕ → ℕ → ℕ → List (List ℕ) → List Entry → List ℕ → List ℕ → Type 0
-StaysAt r f i d j x v bs es c b = Stays (parity_length d) (parity_count r.s r.m d) r.w (2 * (2 ^ r.s - 1)) r.top i (m_blocks r f) (stage_batch r f d) j x v bs es c b
+abbrev StaysAt : Settings → List ℕ → ℕ → ℕ → Place → List (List ℕ) → List Entry → List ℕ → List ℕ → Type 0
+StaysAt r f i d p bs es c b = Stays (parity_length d) (parity_count r.s r.m d) r.w (2 * (2 ^ r.s - 1)) r.top i (m_blocks r f) (stage_batch r f d) p bs es c b
 
 -- ---- where an index block lies
 
@@ -171,25 +172,25 @@ full-most r p d h len e =
 
 -- the bit's own block, the first free one with its index block all 0, or a later stage with fewer than k blocks that aren't full
 abbrev pub PlaceSays : Settings → List ℕ → ℕ → ℕ → StagePlace → Type 0
-PlaceSays r f i d (Own j x v) = StaysAt r f i d j x v
-    (set (parity_blocks r.s r.m d (m_blocks r f)) j (raise r.top (block (parity_length d) (m_blocks r f) j)))
-    (pick (ℕ_discrete (suc v) (parity_length d * r.top)) (set (entries r.top r.w (index_blocks r.s) (stage_batch r f d)) x closed) (entries r.top r.w (index_blocks r.s) (stage_batch r f d)))
-    (store (parity_length d) (take (parity_count r.s r.m d * parity_length d) (m_blocks r f)) j (raise r.top (block (parity_length d) (m_blocks r f) j)))
-    (pick (ℕ_discrete (suc v) (parity_length d * r.top)) (store r.w (take (index_blocks r.s * r.w) (stage_batch r f d)) x (replicate r.w r.top)) (take (index_blocks r.s * r.w) (stage_batch r f d)))
-PlaceSays r f i d (Free j x v) = StaysAt r f i d j x v
-    (pick (ℕ_discrete (v % 2) 0) (set (parity_blocks r.s r.m d (m_blocks r f)) j (raise r.top (block (parity_length d) (m_blocks r f) j))) (parity_blocks r.s r.m d (m_blocks r f)))
-    (set (entries r.top r.w (index_blocks r.s) (stage_batch r f d)) x (index (suc i)))
-    (pick (ℕ_discrete (v % 2) 0) (store (parity_length d) (take (parity_count r.s r.m d * parity_length d) (m_blocks r f)) j (raise r.top (block (parity_length d) (m_blocks r f) j))) (take (parity_count r.s r.m d * parity_length d) (m_blocks r f)))
-    (store r.w (take (index_blocks r.s * r.w) (stage_batch r f d)) x (digits (suc r.top) r.w (suc i)))
-    × (sum (block r.w (stage_batch r f d) x) ≡ 0)
+PlaceSays r f i d (Own p) = StaysAt r f i d p
+    (set (parity_blocks r.s r.m d (m_blocks r f)) p.block (raise r.top (block (parity_length d) (m_blocks r f) p.block)))
+    (pick (ℕ_discrete (suc p.weight) (parity_length d * r.top)) (set (entries r.top r.w (index_blocks r.s) (stage_batch r f d)) p.slot closed) (entries r.top r.w (index_blocks r.s) (stage_batch r f d)))
+    (store (parity_length d) (take (parity_count r.s r.m d * parity_length d) (m_blocks r f)) p.block (raise r.top (block (parity_length d) (m_blocks r f) p.block)))
+    (pick (ℕ_discrete (suc p.weight) (parity_length d * r.top)) (store r.w (take (index_blocks r.s * r.w) (stage_batch r f d)) p.slot (replicate r.w r.top)) (take (index_blocks r.s * r.w) (stage_batch r f d)))
+PlaceSays r f i d (Free p) = StaysAt r f i d p
+    (pick (ℕ_discrete (p.weight % 2) 0) (set (parity_blocks r.s r.m d (m_blocks r f)) p.block (raise r.top (block (parity_length d) (m_blocks r f) p.block))) (parity_blocks r.s r.m d (m_blocks r f)))
+    (set (entries r.top r.w (index_blocks r.s) (stage_batch r f d)) p.slot (index (suc i)))
+    (pick (ℕ_discrete (p.weight % 2) 0) (store (parity_length d) (take (parity_count r.s r.m d * parity_length d) (m_blocks r f)) p.block (raise r.top (block (parity_length d) (m_blocks r f) p.block))) (take (parity_count r.s r.m d * parity_length d) (m_blocks r f)))
+    (store r.w (take (index_blocks r.s * r.w) (stage_batch r f d)) p.slot (digits (suc r.top) r.w (suc i)))
+    × (sum (block r.w (stage_batch r f d) p.slot) ≡ 0)
 PlaceSays r f i d Beyond =
     (change_within (parity_length d * r.top) r.top i (parity_blocks r.s r.m d (m_blocks r f)) (entries r.top r.w (index_blocks r.s) (stage_batch r f d)) ≡ beyond)
     × (live_count r.s r.m r.top d (m_blocks r f) < 2 ^ r.s)
 
 -- a place means what it says
 place-says : (r : Settings) (f : List ℕ) (i d : ℕ) {y : StagePlace} → PlaceAt r f i d y → PlaceSays r f i d y
-place-says r f i d (at_own j x v h) = h
-place-says r f i d (at-free j x v h z) = (h, z)
+place-says r f i d (at_own p h) = h
+place-says r f i d (at-free p h z) = (h, z)
 place-says r f i d (at_none e n) = (e, n)
 
 -- ---- the change
@@ -214,8 +215,8 @@ module _ (r : Settings) (p : StagedFacts r) (f : List ℕ) (v : Levelled r f) (i
   unfolding change_cells
   stay-change e = staged-change r p f i ∙ ap (written (write r.s r.m r.top r.w) f) (within-change e)
 
-  -- a change that goes on to a later stage, with the values that the scan's weights give
-  goes_on : {s : Look} → PassedAt r f d s → PlaceAt r f i d Beyond → Stuck r f i d s.weights
+  -- a change that goes on to a later stage, with the values that the scan's blocks give
+  goes_on : {s : Look} → PassedAt r f d s → PlaceAt r f i d Beyond → Stuck r f i d s.bits
   unfolding S.read
   goes_on {s} g h = record {
     left = omega (arith, below);
@@ -223,129 +224,127 @@ module _ (r : Settings) (p : StagedFacts r) (f : List ℕ) (v : Levelled r f) (i
     dark = dark-staged r p f d a.stage;
     goes = within-change (place-says r f i d h).0
         ∙ ap (later r.s r.m r.top d (m_blocks r f))
-        (tabulate-same (2 ^ r.s) (after i (S.read r.s r.m r.top (meaning r f (at d)))) (after i (λ y. get_or s.weights y 0 % 2))
+        (tabulate-same (2 ^ r.s) (after i (S.read r.s r.m r.top (meaning r f (at d)))) (after i (value_in s.bits))
         (λ y l. ap (λ (z : ℕ). pick (ℕ_discrete y i) (1 - z) z) (stage-read g y (omega (arith, p.bits, (staged-bits r p).1)))));
   }
 
   -- a change that stays in the stage
-  stays-made : {j x w : ℕ} {bs : List (List ℕ)} {es : List Entry} {c b : List ℕ} → StaysAt r f i d j x w bs es c b → change_sheet r f i ≡ done (c ++ batch_set r f d b)
+  stays-made : {p : Place} {bs : List (List ℕ)} {es : List Entry} {c b : List ℕ} → StaysAt r f i d p bs es c b → change_sheet r f i ≡ done (c ++ batch_set r f d b)
   stays-made h = stay-change h.stays ∙ ap₂ (λ (y z : List ℕ). done (y ++ batch_set r f d z)) h.cells-after h.batch-after
 
   -- its index block lies past the m blocks, and in the sheet
   index-fits : (x : ℕ) → x < index_blocks r.s → IndexFits r (index_at r d x)
   index-fits x l = record { past = omega arith; inside = index_in r p d below x l }
 
-  module _ (j x w : ℕ) (h : PlaceAt r f i d (Own j x w)) where
+  module _ (q : Place) (h : PlaceAt r f i d (Own q)) where
     -- what the bit's own block says
-    abbrev own : PlaceSays r f i d (Own j x w)
+    abbrev own : PlaceSays r f i d (Own q)
     own = place-says r f i d h
 
     -- it is one of the stage's parity blocks, and isn't full
-    own-fits : ParityFits r f d j
-    own-fits = record { stage = below; inside = own.in_cells; live = λ q. own.live (own.weight ∙ q) }
+    own-fits : ParityFits r f d q.block
+    own-fits = record { stage = below; inside = own.in_cells; live = λ e. own.live (own.weight ∙ e) }
 
     -- the m blocks after the change
-    own-cells : store (parity_length d) (take (parity_count r.s r.m d * parity_length d) (m_blocks r f)) j (raise r.top (block (parity_length d) (m_blocks r f) j)) ≡ raised_blocks r f d j
-    own-cells = ap (λ (c : List ℕ). store (parity_length d) c j (raise r.top (block (parity_length d) (m_blocks r f) j))) (cells_whole r p f v d below)
+    own-cells : store (parity_length d) (take (parity_count r.s r.m d * parity_length d) (m_blocks r f)) q.block (raise r.top (block (parity_length d) (m_blocks r f) q.block)) ≡ raised_blocks r f d q.block
+    own-cells = ap (λ (c : List ℕ). store (parity_length d) c q.block (raise r.top (block (parity_length d) (m_blocks r f) q.block))) (cells_whole r p f v d below)
 
     -- the bit's own block raised, and not full then
-    own-raised : (ws : List ℕ) → w + 1 ≢ parity_length d * r.top → Planned r f i d ws (Raise j)
-    own-raised ws n =
-        let m : ¬ (suc w ≡ parity_length d * r.top) = λ z. n (omega arith) in
+    own-raised : (bits : List (Option Place)) → q.weight + 1 ≢ parity_length d * r.top → Planned r f i d bits (Raise q.block)
+    own-raised bits n =
+        let m : ¬ (suc q.weight ≡ parity_length d * r.top) = λ z. n (omega arith) in
         record {
           fits = own-fits;
           made = stays-made own ∙ ap done
-              (ap₂ (λ (c b : List ℕ). c ++ batch_set r f d b) own-cells (pick_no (ℕ_discrete (suc w) (parity_length d * r.top)) _ _ m ∙ batch-whole r p f v d below)
-              ∙ ap (λ (b : List ℕ). raised_blocks r f d j ++ b) (batch-kept r p f v d below));
+              (ap₂ (λ (c b : List ℕ). c ++ batch_set r f d b) own-cells (pick_no (ℕ_discrete (suc q.weight) (parity_length d * r.top)) _ _ m ∙ batch-whole r p f v d below)
+              ∙ ap (λ (b : List ℕ). raised_blocks r f d q.block ++ b) (batch-kept r p f v d below));
         }
 
     -- the bit's own block raised to full, and its index block with it
-    own-closed : (ws : List ℕ) → w + 1 ≡ parity_length d * r.top → Planned r f i d ws (Close j (index_at r d x))
-    own-closed ws n =
-        let m : suc w ≡ parity_length d * r.top = omega arith in
+    own-closed : (bits : List (Option Place)) → q.weight + 1 ≡ parity_length d * r.top → Planned r f i d bits (Close q.block (index_at r d q.slot))
+    own-closed bits n =
+        let m : suc q.weight ≡ parity_length d * r.top = omega arith in
         record {
-          fits = (own-fits, index-fits x own.in-batch);
+          fits = (own-fits, index-fits q.slot own.in-batch);
           made = stays-made own ∙ ap done
-              (ap₂ (λ (c b : List ℕ). c ++ batch_set r f d b) own-cells (pick_yes (ℕ_discrete (suc w) (parity_length d * r.top)) _ _ m
-              ∙ ap (λ (b : List ℕ). store r.w b x (replicate r.w r.top)) (batch-whole r p f v d below))
-              ∙ sym (index-put r p f v d below (raised_blocks r f d j) x (replicate r.w r.top) (raised_long r p f v d below j own.in_cells) own.in-batch (length-replicate r.w r.top)));
+              (ap₂ (λ (c b : List ℕ). c ++ batch_set r f d b) own-cells (pick_yes (ℕ_discrete (suc q.weight) (parity_length d * r.top)) _ _ m
+              ∙ ap (λ (b : List ℕ). store r.w b q.slot (replicate r.w r.top)) (batch-whole r p f v d below))
+              ∙ sym (index-put r p f v d below (raised_blocks r f d q.block) q.slot (replicate r.w r.top) (raised_long r p f v d below q.block own.in_cells) own.in-batch (length-replicate r.w r.top)));
         }
 
-  module _ (j x w : ℕ) (h : PlaceAt r f i d (Free j x w)) where
+  module _ (q : Place) (h : PlaceAt r f i d (Free q)) where
     -- what the first free block says
-    abbrev free : PlaceSays r f i d (Free j x w)
+    abbrev free : PlaceSays r f i d (Free q)
     free = place-says r f i d h
 
     -- it is one of the stage's parity blocks, its index block one of the batch's, and all 0
-    free-fits : (up : ℕ) → up ≤ 1 → Fits r f i d (Take j (index_at r d x) up)
+    free-fits : (up : ℕ) → up ≤ 1 → Fits r f i d (Take q.block (index_at r d q.slot) up)
     free-fits up l = (
-      record { stage = below; inside = free.0.in_cells; live = λ q. free.0.live (free.0.weight ∙ q) },
-      index-fits x free.0.in-batch,
+      record { stage = below; inside = free.0.in_cells; live = λ e. free.0.live (free.0.weight ∙ e) },
+      index-fits q.slot free.0.in-batch,
       l,
-      ap (λ (g : List ℕ). sum (part (index_at r d x) r.w g)) (whole r p f v d below)
-          ∙ ap sum (index-part r p f v d below (m_blocks r f) x (blocks-long r p f v d below) free.0.in-batch) ∙ free.1,
+      ap (λ (g : List ℕ). sum (part (index_at r d q.slot) r.w g)) (whole r p f v d below)
+          ∙ ap sum (index-part r p f v d below (m_blocks r f) q.slot (blocks-long r p f v d below) free.0.in-batch) ∙ free.1,
     )
 
     -- the batch after the change
-    free-index : store r.w (take (index_blocks r.s * r.w) (stage_batch r f d)) x (digits (suc r.top) r.w (suc i)) ≡ store r.w (stage_batch r f d) x (digits (suc r.top) r.w (i + 1))
+    free-index : store r.w (take (index_blocks r.s * r.w) (stage_batch r f d)) q.slot (digits (suc r.top) r.w (suc i)) ≡ store r.w (stage_batch r f d) q.slot (digits (suc r.top) r.w (i + 1))
     free-index =
         let t : suc i ≡ i + 1 = omega arith in
-        ap₂ (λ (b : List ℕ) (u : ℕ). store r.w b x (digits (suc r.top) r.w u)) (batch-whole r p f v d below) t
+        ap₂ (λ (b : List ℕ) (u : ℕ). store r.w b q.slot (digits (suc r.top) r.w u)) (batch-whole r p f v d below) t
 
     -- a free block of odd weight takes the bit as it is; one of even weight is raised by one
-    free-taken : (ws : List ℕ) (up : ℕ) → up ≡ 1 - w % 2 → Planned r f i d ws (Take j (index_at r d x) up)
-    free-taken ws zero e =
-        let n : w % 2 ≢ 0 = λ q. omega arith in
+    free-taken : (bits : List (Option Place)) (up : ℕ) → up ≡ 1 - q.weight % 2 → Planned r f i d bits (Take q.block (index_at r d q.slot) up)
+    free-taken bits zero e =
+        let n : q.weight % 2 ≢ 0 = λ z. omega arith in
         record {
           fits = free-fits 0 (omega arith);
           made = stays-made free.0 ∙ ap done
-              (ap₂ (λ (c b : List ℕ). c ++ batch_set r f d b) (pick_no (ℕ_discrete (w % 2) 0) _ _ n ∙ cells_whole r p f v d below) free-index
-              ∙ sym (index-put r p f v d below (m_blocks r f) x (digits (suc r.top) r.w (i + 1)) (blocks-long r p f v d below) free.0.in-batch (length_digits (suc r.top) r.w (i + 1)))
-              ∙ ap (spliced (index_at r d x) (digits (suc r.top) r.w (i + 1))) (sym (whole r p f v d below)));
+              (ap₂ (λ (c b : List ℕ). c ++ batch_set r f d b) (pick_no (ℕ_discrete (q.weight % 2) 0) _ _ n ∙ cells_whole r p f v d below) free-index
+              ∙ sym (index-put r p f v d below (m_blocks r f) q.slot (digits (suc r.top) r.w (i + 1)) (blocks-long r p f v d below) free.0.in-batch (length_digits (suc r.top) r.w (i + 1)))
+              ∙ ap (spliced (index_at r d q.slot) (digits (suc r.top) r.w (i + 1))) (sym (whole r p f v d below)));
         }
-    free-taken ws (suc zero) e =
-        let n : w % 2 ≡ 0 = omega arith in
+    free-taken bits (suc zero) e =
+        let n : q.weight % 2 ≡ 0 = omega arith in
         record {
           fits = free-fits 1 (omega arith);
           made = stays-made free.0 ∙ ap done
-              (ap₂ (λ (c b : List ℕ). c ++ batch_set r f d b) (pick_yes (ℕ_discrete (w % 2) 0) _ _ n
-              ∙ ap (λ (c : List ℕ). store (parity_length d) c j (raise r.top (block (parity_length d) (m_blocks r f) j))) (cells_whole r p f v d below)) free-index
-              ∙ sym (index-put r p f v d below (raised_blocks r f d j) x (digits (suc r.top) r.w (i + 1)) (raised_long r p f v d below j free.0.in_cells) free.0.in-batch (length_digits (suc r.top) r.w (i + 1))));
+              (ap₂ (λ (c b : List ℕ). c ++ batch_set r f d b) (pick_yes (ℕ_discrete (q.weight % 2) 0) _ _ n
+              ∙ ap (λ (c : List ℕ). store (parity_length d) c q.block (raise r.top (block (parity_length d) (m_blocks r f) q.block))) (cells_whole r p f v d below)) free-index
+              ∙ sym (index-put r p f v d below (raised_blocks r f d q.block) q.slot (digits (suc r.top) r.w (i + 1)) (raised_long r p f v d below q.block free.0.in_cells) free.0.in-batch (length_digits (suc r.top) r.w (i + 1))));
         }
-    free-taken ws (suc (suc up)) e = absurd (omega arith)
+    free-taken bits (suc (suc up)) e = absurd (omega arith)
 
   -- the plan at a place in the stage is one of the change
-  place-planned : (ws : List ℕ) (y : StagePlace) → PlaceAt r f i d y → plan_at (batch_at r d) r.w (parity_length d * r.top) y ≢ Nowhere → Planned r f i d ws (plan_at (batch_at r d) r.w (parity_length d * r.top) y)
-  place-planned ws (Own j x w) h n =
-      pick-elim (Planned r f i d ws) (ℕ_discrete (w + 1) (parity_length d * r.top)) (Close j (index_at r d x)) (Raise j) (own-closed j x w h ws) (own-raised j x w h ws)
-  place-planned ws (Free j x w) h n = free-taken j x w h ws (1 - w % 2) refl
-  place-planned ws Beyond h n = absurd (n refl)
+  place-planned : (bits : List (Option Place)) (y : StagePlace) → PlaceAt r f i d y → plan_at (batch_at r d) r.w (parity_length d * r.top) y ≢ Nowhere → Planned r f i d bits (plan_at (batch_at r d) r.w (parity_length d * r.top) y)
+  place-planned bits (Own q) h n =
+      pick-elim (Planned r f i d bits) (ℕ_discrete (q.weight + 1) (parity_length d * r.top)) (Close q.block (index_at r d q.slot)) (Raise q.block) (own-closed q h bits) (own-raised q h bits)
+  place-planned bits (Free q) h n = free-taken q h bits (1 - q.weight % 2) refl
+  place-planned bits Beyond h n = absurd (n refl)
 
   -- a plan that names a place is at one
   no_place : (y : StagePlace) → plan_at (batch_at r d) r.w (parity_length d * r.top) y ≡ Nowhere → y ≡ Beyond
-  no_place (Own j x w) e = absurd (pick-elim (λ z. z ≢ Nowhere) (ℕ_discrete (w + 1) (parity_length d * r.top)) (Close j (index_at r d x)) (Raise j)
+  no_place (Own q) e = absurd (pick-elim (λ z. z ≢ Nowhere) (ℕ_discrete (q.weight + 1) (parity_length d * r.top)) (Close q.block (index_at r d q.slot)) (Raise q.block)
       (λ _ q. let z : ◌≡◌ {A = ℕ} 0 1 = cc in omega arith) (λ _ q. let z : ◌≡◌ {A = ℕ} 0 1 = cc in omega arith) e)
-  no_place (Free j x w) e = absurd (let z : ◌≡◌ {A = ℕ} 0 1 = cc in omega arith)
+  no_place (Free q) e = absurd (let z : ◌≡◌ {A = ℕ} 0 1 = cc in omega arith)
   no_place Beyond e = refl
 
-  module _ (s : Look) (g : PassedAt r f d s) (l : i < r.k) (count w full : ℕ) (e₁ : count ≡ parity_count r.s r.m d) (e₂ : w ≡ r.w) (e₃ : full ≡ parity_length d * r.top) where
+  module _ (s : Look) (g : PassedAt r f d s) (l : i < r.k) (w full : ℕ) (e₂ : w ≡ r.w) (e₃ : full ≡ parity_length d * r.top) where
     -- the plan that the look gives is that of its place
-    placed : plan_in s i count w full ≡ plan_at (batch_at r d) r.w (parity_length d * r.top) (place_in s i (parity_count r.s r.m d))
-    placed = rw (e₁, e₂, e₃) (plan-placed s i (parity_count r.s r.m d) r.w (parity_length d * r.top) ∙ ap (λ (c : ℕ). plan_at c r.w (parity_length d * r.top) (place_in s i (parity_count r.s r.m d))) g.batch)
+    placed : plan_in s i w full ≡ plan_at (batch_at r d) r.w (parity_length d * r.top) (place_in s i)
+    placed = rw (e₂, e₃) (ap (λ (c : ℕ). plan_at c r.w (parity_length d * r.top) (place_in s i)) g.batch)
 
-    place_is : PlaceAt r f i d (place_in s i (parity_count r.s r.m d))
+    place_is : PlaceAt r f i d (place_in s i)
     place_is = stage-place (stage-fits r p f v d below) g i (omega (arith, p.bits))
 
     -- a plan in the stage is one of the change
-    pub within-planned : (ws : List ℕ) → plan_in s i count w full ≢ Nowhere → Planned r f i d ws (plan_in s i count w full)
-    within-planned ws n = subst (Planned r f i d ws) (sym placed) (place-planned ws (place_in s i (parity_count r.s r.m d)) place_is (λ q. n (placed ∙ q)))
+    pub within-planned : (bits : List (Option Place)) → plan_in s i w full ≢ Nowhere → Planned r f i d bits (plan_in s i w full)
+    within-planned bits n = subst (Planned r f i d bits) (sym placed) (place-planned bits (place_in s i) place_is (λ q. n (placed ∙ q)))
 
     -- and where there is none, the change goes on to a later stage
-    pub within-stuck : plan_in s i count w full ≡ Nowhere → Stuck r f i d s.weights
-    within-stuck q = goes_on g (subst (PlaceAt r f i d) (no_place (place_in s i (parity_count r.s r.m d)) (sym placed ∙ q)) place_is)
+    pub within-stuck : plan_in s i w full ≡ Nowhere → Stuck r f i d s.bits
+    within-stuck q = goes_on g (subst (PlaceAt r f i d) (no_place (place_in s i) (sym placed ∙ q)) place_is)
 
     -- what the look tells is small
-    pub within-near : Near s i w
-    within-near =
-        let a : parity_length d ≤ most_bits = omega (arith, length_most r p d (omega (arith, below)), (staged-bits r p).1) in
-        rw e₂ (scan-near (stage-fits r p f v d below) a p.top-most (omega (arith, batch-inside r p d below, p.cells-most)) (omega (arith, staged-width r p)) g i (omega (arith, (staged-bits r p).1)))
+    pub within-near : Near s w
+    within-near = rw e₂ (scan-near (omega (arith, batch-inside r p d below, p.cells-most)) (omega (arith, staged-width r p)) g)

@@ -1,12 +1,12 @@
 -- Laws of a change at stage 0 of a staged sheet: the plain step on the m blocks, or no place there. Assumes nothing.
 use Rattle.std.proofs.Math.Path.{◌≡◌, sym, ap}
-use Rattle.std.specs.Prelude.{refl, ◌≢◌, take, replicate}
+use Rattle.std.specs.Prelude.{refl, ◌≢◌, take, replicate, Option}
 use Rattle.std.proofs.Common.{ap₂, ◌∙◌, subst, arith, take-append-drop, drop_of_length-le, pow_pos, length-take-le, take-take}
 use mathlib.Core.List.{List, ◌++◌, append_assoc}
 use Prim.Native.Nat.{ℕ, ◌+◌, ◌-◌, ◌*◌, ◌%◌, ◌^◌, ◌≤◌, ◌<◌}
 use Rattle.std.proofs.Math.Decide.{ℕ_discrete}
 use Rattle.std.proofs.Math.Nat.{le_refl, sub_self}
-use Rattle.std.proofs.Math.ListN.{length, get_or, drop}
+use Rattle.std.proofs.Math.ListN.{length, drop}
 use Rattle.std.proofs.lemmas.List.{drop-append-le}
 use Rattle.rules.specs.Search.{pick, nowhere, Result, done, no_place_left}
 use Rattle.rules.specs.Cells.{tabulate, block, store}
@@ -28,9 +28,10 @@ use Rattle.laws.specs.Splice.{drop-take}
 use Rattle.plain.specs.Meaning.{Scanned, PlaceOf, plan_in, step}
 use Rattle.plain.specs.Meaning as M
 use Rattle.plain.specs.Laws.{block-end, scanned-place, scanned-read, scanned-sound}
+use Rattle.plan.specs.declared.Place.{Place}
 use Rattle.plan.specs.declared.Plan.{Plan}
 use Rattle.plan.specs.declared.Plan.TheVariants.{Nowhere}
-use Rattle.plan.specs.Meaning.{Levelled, Planned}
+use Rattle.plan.specs.Meaning.{Levelled, Planned, value_in}
 use Rattle.staged.specs.Meaning.{AtStage, Stuck}
 use Rattle.staged.specs.LayoutLaws.{cells_are}
 use Rattle.staged.specs.StageLaws.{decode-at, dark-zero}
@@ -82,12 +83,12 @@ module _ (r : Settings) (p : StagedFacts r) (f : List ℕ) (v : Levelled r f) (a
     ok : P.BlocksOk r.k r.top r.m (take c f)
     ok = (scanned-sound h t).0
 
-    zero-place : (i : ℕ) → i < r.k → PlaceOf r.k r.top r.m i (take c f) (plan_in s i r.m)
+    zero-place : (i : ℕ) → i < r.k → PlaceOf r.k r.top r.m i (take c f) (plan_in s i)
     zero-place i l = scanned-place r.k r.top r.m i (take c f) s two p.top_least (omega (arith, long, inside)) l h t
 
-    step_from : (i : ℕ) {o : Plan} → PlaceOf r.k r.top r.m i (take c f) o → o ≢ Nowhere → (d : ℕ) (ws : List ℕ) → Planned r f i d ws o
+    step_from : (i : ℕ) {o : Plan} → PlaceOf r.k r.top r.m i (take c f) o → o ≢ Nowhere → (d : ℕ) (bits : List (Option Place)) → Planned r f i d bits o
     unfolding change_cells
-    step_from i (step x u b q y z) n d ws =
+    step_from i (step x u b q y z) n d bits =
         let k : ℕ = r.k in
         let fits : x * k + k ≤ c = block-end k r.m x c inside b in
         let low : c ≤ length f = cells_in r p f v c e in
@@ -97,12 +98,11 @@ module _ (r : Settings) (p : StagedFacts r) (f : List ℕ) (v : Levelled r f) (a
           made = staged-change r p f i ∙ ap (written (write r.s r.m r.top r.w) f) (zero-change i z)
               ∙ ap (λ (n : ℕ). done (store k (take c f) x new ++ drop n f)) (sym e) ∙ ap done (front-store k c x new f fits low);
         }
-    step_from i (M.erase z) n d ws = absurd (n refl)
+    step_from i (M.erase z) n d bits = absurd (n refl)
 
     -- a place is the next step of the bit's cycle in its block
-    pub zero-planned : (i m d : ℕ) (ws : List ℕ) → i < r.k → m ≡ r.m → plan_in s i m ≢ Nowhere → Planned r f i d ws (plan_in s i m)
-    zero-planned i m d ws l q n =
-        subst (λ (x : ℕ). Planned r f i d ws (plan_in s i x)) (sym q) (step_from i (zero-place i l) (subst (λ (x : ℕ). plan_in s i x ≢ Nowhere) q n) d ws)
+    pub zero-planned : (i d : ℕ) (bits : List (Option Place)) → i < r.k → plan_in s i ≢ Nowhere → Planned r f i d bits (plan_in s i)
+    zero-planned i d bits l n = step_from i (zero-place i l) n d bits
 
     -- no place: fewer than k blocks are live
     accepted : Q.Accepted (2 ^ r.s) r.top r.m (r.m * 2 ^ r.s) (take (r.m * 2 ^ r.s) f)
@@ -130,7 +130,7 @@ module _ (r : Settings) (p : StagedFacts r) (f : List ℕ) (v : Levelled r f) (a
         (plain-live k L m (m * k) one p.top_least even (le_refl (m * k)) i i-in (take (m * k) f) accepted
         (Q.no-place-how k L m (m * k) one p.top_least even (le_refl (m * k)) i i-in (take (m * k) f) accepted none))
 
-    stuck-from : (i : ℕ) → i < r.k → {o : Plan} → PlaceOf r.k r.top r.m i (take c f) o → o ≡ Nowhere → Stuck r f i (r.s - 1) s.weights
+    stuck-from : (i : ℕ) → i < r.k → {o : Plan} → PlaceOf r.k r.top r.m i (take c f) o → o ≡ Nowhere → Stuck r f i (r.s - 1) s.bits
     unfolding S.read
     stuck-from i l (step x u b q y z) n = absurd (let y : ◌≡◌ {A = ℕ} 0 1 = cc in omega arith)
     stuck-from i l (M.erase z) n = record {
@@ -139,11 +139,11 @@ module _ (r : Settings) (p : StagedFacts r) (f : List ℕ) (v : Levelled r f) (a
       dark = dark-zero r p f a.stage;
       goes = zero-change i z
           ∙ ap (later r.s r.m r.top (r.s - 1) (take (r.m * 2 ^ r.s) f))
-          (tabulate-same (2 ^ r.s) (after i (S.read r.s r.m r.top (stage0 (take (r.m * 2 ^ r.s) f)))) (after i (λ y. get_or s.weights y 0 % 2))
+          (tabulate-same (2 ^ r.s) (after i (S.read r.s r.m r.top (stage0 (take (r.m * 2 ^ r.s) f)))) (after i (value_in s.bits))
           (λ y b. ap (λ (x : ℕ). pick (ℕ_discrete y i) (1 - x) x)
           (ap₂ (λ (k x : ℕ). P.read k r.top r.m (take x f) y) p.bits (sym e) ∙ scanned-read r.k r.top r.m y (take c f) s h t (subst (λ (x : ℕ). y < x) p.bits b))));
     }
 
     -- no place among the m blocks: the change goes on to a later stage
-    pub zero-stuck : (i m : ℕ) → i < r.k → m ≡ r.m → plan_in s i m ≡ Nowhere → Stuck r f i (r.s - 1) s.weights
-    zero-stuck i m l q n = stuck-from i l (zero-place i l) (ap (plan_in s i) (sym q) ∙ n)
+    pub zero-stuck : (i : ℕ) → i < r.k → plan_in s i ≡ Nowhere → Stuck r f i (r.s - 1) s.bits
+    zero-stuck i l n = stuck-from i l (zero-place i l) n

@@ -6,7 +6,7 @@ use Rattle.std.proofs.Math.Decide.{dec_lt}
 use Rattle.rules.specs.Accept.{most_bits}
 use Rattle.rules.specs.Search.{first, nowhere}
 use Rattle.rules.specs.SearchLaws.{first-is, first-unique, pick_no, pick_yes}
-use Rattle.rules.specs.Cells.{Low, block, sum}
+use Rattle.rules.specs.Cells.{block, sum}
 use Rattle.rules.specs.Plain.{BlocksOk, blocks_ok?}
 use Rattle.rules.specs.Plain as P
 use Rattle.rules.specs.Staged as S
@@ -14,17 +14,17 @@ use Rattle.rules.specs.Batches.{batch, batch_cells}
 use Rattle.rules.specs.AcceptLaws.{StagedFacts, staged-bits, staged-inside}
 use Rattle.rules.specs.Calls.{as_check, read_bit}
 use Rattle.rules.specs.declared.Answer.TheVariants.{BadSheet, Done}
+use Rattle.cells.specs.declared.blocks.Blocks.{Blocks}
 use Rattle.plan.specs.declared.Look.{Look}
 use Rattle.rules.specs.declared.Settings.{Settings}
-use Rattle.laws.specs.Lists.{low-drop, low-take}
+use Rattle.laws.specs.Lists.{low-drop}
 use Rattle.index.specs.Meaning.{RegionsFit, stage_left}
 use Rattle.index.specs.StageLaws.{batches-fit, stage-one}
 use Rattle.plain.specs.Meaning.{Scanned}
 use Rattle.plain.specs.Laws.{scanned-read}
 use Rattle.plan.specs.Meaning.{Levelled, breaks, keeps, m_blocks}
-use Rattle.staged.specs.Meaning.{AtStage, StagedLook, seen-zero, stage_found}
+use Rattle.staged.specs.Meaning.{AtStage, CutInto, StagedLook, seen-zero, stage_found}
 use Rattle.plain.specs.SheetLaws.{part_from}
-use Rattle.staged.specs.LayoutLaws.{cells_are, cells-most}
 use Rattle.staged.specs.StageLaws.{stage-sound, sound-stage, read-stage}
 
 -- the stage told by the cells from the first batch on is the stage of the rules
@@ -61,19 +61,13 @@ module _ (r : Settings) (p : StagedFacts r) (f : List ℕ) (v : Levelled r f) wh
       ∙ stage-one (batch_cells r.s r.w) (r.s - 1) r.top (drop (r.m * 2 ^ r.s) f)
       ∙ stage-rules r.s r.m r.w f
 
-  -- what the scan of the m blocks asks for
-  pub record ScanAsks (c m : ℕ) : Type 0 where
-    pub bits : (2 ≤ r.k) × (r.k ≤ most_bits) × (1 ≤ r.top) × (m * r.k ≤ length (take c f)) × (length (take c f) ≤ 65536)
-    pub low : Low r.top (take c f)
+  -- as they are lent, they have all their cells
+  pub cells-long : (c : ℕ) → c ≡ r.m * 2 ^ r.s → length (take c f) ≡ r.m * 2 ^ r.s
+  cells-long c e = length-take-le c f (cells_in c e) ∙ e
 
-  -- the m blocks have it
-  pub scan-asks : (c m : ℕ) → c ≡ r.m * 2 ^ r.s → m ≡ r.m → ScanAsks c m
-  scan-asks c m e q =
-      let l : length (take c f) ≡ c = length-take-le c f (cells_in c e) in
-      record {
-        bits = (omega (arith, (staged-bits r p).0), omega (arith, (staged-bits r p).1), p.top_least, omega (arith, cells_are r p, ap (λ (x : ℕ). x * r.k) q), omega (arith, cells-most r p));
-        low = low-take r.top c f v.low;
-      }
+  -- what the scan of the m blocks asks for
+  pub scan-asks : (b : Blocks) → CutInto r f r.k r.m b → (2 ≤ b.len) × (b.len ≤ most_bits) × (1 ≤ b.top)
+  scan-asks b c = (omega (arith, c.len, (staged-bits r p).0), omega (arith, c.len, (staged-bits r p).1), omega (arith, c.top, p.top_least))
 
   -- the m blocks as they are lent, and as the rules have them
   pub to-rules : (c : ℕ) → c ≡ r.m * 2 ^ r.s → BlocksOk r.k r.top r.m (take c f) → BlocksOk (2 ^ r.s) r.top r.m (take (r.m * 2 ^ r.s) f)
@@ -89,11 +83,12 @@ module _ (r : Settings) (p : StagedFacts r) (f : List ℕ) (v : Levelled r f) wh
   zero-read a c e i = read-stage r p f nowhere a i ∙ ap₂ (λ (k : ℕ) (x : ℕ). P.read k r.top r.m (take x f) i) p.bits (sym e)
 
   -- a scan of the m blocks is a look at the whole sheet
-  pub zero-look : AtStage r f nowhere → (c m : ℕ) (b : Look) → c ≡ r.m * 2 ^ r.s → m ≡ r.m → Scanned r.k r.top m (take c f) b → StagedLook r f b
-  zero-look a c m b e q g = go (blocks_ok? r.k r.top r.m (m_blocks r f))
+  pub zero-look : AtStage r f nowhere → (x : Blocks) → CutInto r f r.k r.m x → (b : Look) → Scanned x.len x.top x.count x.cells.now b → StagedLook r f b
+  zero-look a x c b g = go (blocks_ok? r.k r.top r.m (m_blocks r f))
     where
       h : Scanned r.k r.top r.m (m_blocks r f) b
-      h = subst₂ (λ (x y : ℕ). Scanned r.k r.top x (take y f) b) q e g
+      h = subst₂ (λ (l m : ℕ). Scanned l r.top m (m_blocks r f) b) c.len c.count
+          (subst₂ (λ (L : ℕ) (xs : List ℕ). Scanned x.len L x.count xs b) c.top c.cells g)
 
       go : Dec (BlocksOk r.k r.top r.m (m_blocks r f)) → StagedLook r f b
       go (yes o) =

@@ -2,6 +2,6 @@
 #![tactic(auto)]
 
 pub mod carried;
-mod layout;
+pub mod layout;
 pub mod planned;
 pub mod seen;

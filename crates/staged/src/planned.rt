@@ -1,82 +1,58 @@
-// The plan of a change of a staged sheet: in its stage, or else the move to a later one. Assumes accepted settings of kind 1 and every check passed.
+// The plan of a change of a staged sheet: in its stage, or else the move to a later one. Assumes every check passed.
 ghost use Rattle.std.specs.Prelude.{◌≡◌, ◌-◌, ◌≤◌, ◌<◌};
-ghost use Rattle.parity.specs.Meaning.{as_later, later_left};
-ghost use Rattle.plan.specs.Meaning.{Levelled, Planned, Sized, m_blocks};
-ghost use Rattle.rules.specs.AcceptLaws.{StagedFacts};
+ghost use Rattle.parity.specs.Meaning.{later_left};
+ghost use Rattle.plan.specs.Meaning.{Planned, m_blocks};
+ghost use Rattle.rules.specs.Search.{as_found};
 ghost use Rattle.staged.specs.Meaning.{StagePlan, StagedSeen, later_plan};
 
-use crate::layout::{block_cells, parity_count, parity_length};
-use parity::{Later, later_stage};
+use crate::layout::{StagedSheet, parity_length};
+use parity::later_stage;
 use plain::plan_blocks;
-use plan::{Look, Plan, Sizes};
-use rules::Settings;
+use plan::{Look, Plan};
 use stage::plan_in;
 
-// The first later stage with room.
-fn later_left(settings: Settings, sizes: Sizes, sheet: &[u8], left: usize) -> Later
-    requires { StagedFacts settings × Levelled settings sheet.now × (left ≤ settings.s - 1) × Sized settings sizes }
-    ensures { as_later result ≡ later_left settings.s settings.m settings.top left (m_blocks settings sheet.now) }
-{
-    let cells = block_cells(settings, sizes);
-    let len = parity_length(left);
-    let count = parity_count(settings, sizes, left);
-    later_stage(
-        &sheet[..cells],
-        left,
-        len,
-        count,
-        settings.k,
-        settings.top as u8,
-    )
-}
-
-// The plan on to a later stage: the move there, or no place.
-fn plan_later(settings: Settings, sizes: Sizes, sheet: &[u8], left: usize) -> Plan
-    requires { StagedFacts settings × Levelled settings sheet.now × (left ≤ settings.s - 1) × Sized settings sizes }
-    ensures { result ≡ later_plan (later_left settings.s settings.m settings.top left (m_blocks settings sheet.now)) }
-{
-    let Later::Left(to) = later_left(settings, sizes, sheet, left) else {
-        return Plan::Nowhere;
-    };
-    Plan::Move(to)
-}
-
-// The plan in the stage that the sheet is in, or no place there.
-fn plan_stage(
-    settings: Settings,
-    sizes: Sizes,
-    sheet: &[u8],
-    bit: usize,
-    stage: usize,
-    look: Look,
-) -> Plan
-    requires { StagedFacts settings × Levelled settings sheet.now × (bit < settings.k) × StagedSeen settings sheet.now look stage × Sized settings sizes }
-    ensures { StagePlan settings sheet.now bit (settings.s - 1 - stage) look result }
-{
-    if stage == 0 {
-        return plan_blocks(look, bit, sizes.blocks);
+impl StagedSheet<'_> {
+    // The first later stage with room.
+    fn later_left(&self, left: usize) -> Option<usize>
+        requires { left ≤ self.now.of.settings.s - 1 }
+        ensures { as_found result ≡ later_left self.now.of.settings.s self.now.of.settings.m self.now.of.settings.top left (m_blocks self.now.of.settings self.now.cells.now) }
+    {
+        later_stage(self.parity_blocks(left), left, self.of.settings.k)
     }
-    let left = settings.s - 1 - stage;
-    let count = parity_count(settings, sizes, left);
-    let full = parity_length(left) * settings.top;
-    plan_in(look, bit, count, sizes.width, full)
-}
 
-// The plan of a change: in the stage that the sheet is in, or else the move to a later one, or no place.
-pub fn plan_staged(
-    settings: Settings,
-    sizes: Sizes,
-    sheet: &[u8],
-    bit: usize,
-    stage: usize,
-    look: Look,
-) -> Plan
-    requires { StagedFacts settings × Levelled settings sheet.now × (bit < settings.k) × StagedSeen settings sheet.now look stage × Sized settings sizes }
-    ensures { Planned settings sheet.now bit (settings.s - 1 - stage) look.weights result }
-{
-    let plan = plan_stage(settings, sizes, sheet, bit, stage, look);
-    let Plan::Nowhere = plan else {
-        return plan;
-    };
-    plan_later(settings, sizes, sheet, settings.s - 1 - stage)
+    // The plan on to a later stage: the move there, or no place.
+    fn plan_later(&self, left: usize) -> Plan
+        requires { left ≤ self.now.of.settings.s - 1 }
+        ensures { result ≡ later_plan (later_left self.now.of.settings.s self.now.of.settings.m self.now.of.settings.top left (m_blocks self.now.of.settings self.now.cells.now)) }
+    {
+        let Some(to) = self.later_left(left) else {
+            return Plan::Nowhere;
+        };
+        Plan::Move(to)
+    }
+
+    // The plan in the stage that the sheet is in, or no place there.
+    fn plan_stage(&self, bit: usize, stage: usize, look: &Look) -> Plan
+        requires { (bit < self.now.of.settings.k) × StagedSeen self.now.of.settings self.now.cells.now look.now stage }
+        ensures { StagePlan self.now.of.settings self.now.cells.now bit (self.now.of.settings.s - 1 - stage) look.now result }
+    {
+        if stage == 0 {
+            return plan_blocks(look, bit);
+        }
+        let settings = self.of.settings;
+        let full = parity_length(settings.s - 1 - stage) * settings.top;
+        plan_in(look, bit, self.of.width, full)
+    }
+
+    // The plan of a change: in the stage that the sheet is in, or else the move to a later one, or no place.
+    pub fn plan(&self, bit: usize, stage: usize, look: &Look) -> Plan
+        requires { (bit < self.now.of.settings.k) × StagedSeen self.now.of.settings self.now.cells.now look.now stage }
+        ensures { Planned self.now.of.settings self.now.cells.now bit (self.now.of.settings.s - 1 - stage) look.now.bits result }
+    {
+        let plan = self.plan_stage(bit, stage, look);
+        let Plan::Nowhere = plan else {
+            return plan;
+        };
+        self.plan_later(self.of.settings.s - 1 - stage)
+    }
 }

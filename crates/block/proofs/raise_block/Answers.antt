@@ -1,13 +1,13 @@
 -- `block::raise_block` meets its contract: the part lent on, put back, is the sheet with that block stored. Assumes nothing.
-use Rattle.std.proofs.Common.{◌+◌, ◌∙◌, arith, length-drop, length-take}
-use Rattle.rules.specs.Block.{cycle}
+use Rattle.std.proofs.Common.{◌+◌, ◌∙◌}
 use Rattle.block.proofs.LentLaws.{lent_back, lent-block}
+use Rattle.rules.specs.Block.{cycle}
 use Rattle.block.proofs.raise_block.Goals as goal
 
-pub raise_step-requires : goal.raise_step-requires
-raise_step-requires c =
+pub raise_step-requires-clause-on_cycle : goal.raise_step-requires-clause-on_cycle
+raise_step-requires-clause-on_cycle c =
     let a = c.args in
-    record { in_bounds = simp (length-take, length-drop) (omega arith); on_cycle = lent-block a.k a.sheet.now a.j ∙ c.requires.on_cycle }
+    lent-block a.k a.sheet.now a.j ∙ c.requires.on_cycle
 
 pub returns : goal.returns
 returns c =

@@ -1,27 +1,12 @@
 -- `block::raise_step` meets its contract: the one cell raised is the step's. Assumes nothing.
 use Rattle.std.proofs.Common.{arith}
-use Rattle.laws.specs.Step.{part-below, part_step, step_in, turns-lt}
+use Rattle.laws.specs.Step.{part-below, part_step}
 use Rattle.block.proofs.raise_step.Goals as goal
-
-pub overflow_add-cell : goal.overflow_add-cell
-overflow_add-cell c =
-    let a = c.args in
-    omega (arith, turns-lt a.top a.weight (omega arith) a.k (omega arith))
-
-pub bounds-part-cell : goal.bounds-part-cell
-bounds-part-cell c =
-    let a = c.args in
-    omega (arith, step_in a.k a.top a.bit (omega arith) a.weight (omega arith) (omega arith))
 
 pub overflow_add-part : goal.overflow_add-part
 overflow_add-part c =
     let a = c.args in
     omega (arith, part-below a.k a.top a.bit (omega arith) a.weight (omega arith) (omega arith) a.part.now c.requires.on_cycle)
-
-pub bounds-part-cell-2 : goal.bounds-part-cell-2
-bounds-part-cell-2 c =
-    let a = c.args in
-    omega (arith, step_in a.k a.top a.bit (omega arith) a.weight (omega arith) (omega arith))
 
 pub returns : goal.returns
 returns c =

@@ -11,22 +11,31 @@ unfolding rises rise_cells nonzero tops last_of
 loop-i-preserved c =
     let b = c.args.b.now in
     let i = c.loop-i.i in
-    let h = c.loop-i-test.true in
-    let next = drop-next b i h in
+    let next = drop-next b i c.loop-i-test.true in
     let up = ap (rises c.loop-i.before) next in
     let cells = ap (rise_cells i c.loop-i.before) next in
     let high = ap nonzero next in
     let top = ap (tops c.args.top) next in
     let all = ap sum next in
     let last = ap (last_of c.loop-i.before) next in
-    (omega arith, omega arith, omega arith, omega arith, omega arith, omega arith, omega arith, omega arith, omega arith, omega arith, omega arith, omega arith)
+    record {
+      up_few = omega arith;
+      nonzero_few = omega arith;
+      tops_few = omega arith;
+      up = omega arith;
+      cells = omega arith;
+      high = omega arith;
+      top = omega arith;
+      all = omega arith;
+      last = omega arith;
+    }
 
 pub returns : goal.returns
 unfolding higher
 returns c =
     let l = c.loop-i in
-    let a = c.args in
-    let known = c.shared_slice_known-2-1.given 0 in
-    shape-whole a.top l.before l.i l.rises _ l.start l.nonzero l.tops l.total a.b.now
+    let s = l.shape in
+    let v = l.invariant in
+    shape-whole c.args.top l.before l.i s.rises _ s.start s.nonzero s.tops s.total c.args.b.now
     (omega arith) (omega arith) c.loop-i-test.false (omega arith) (omega arith)
-    l.invariant.6 l.invariant.7 l.invariant.8 l.invariant.9 l.invariant.10 l.invariant.11 (omega arith)
+    v.up v.cells v.high v.top v.all v.last (omega arith)

@@ -6,14 +6,9 @@ use Rattle.cells.proofs.full_at_front.Goals as goal
 pub returns-then-level-eq0 : goal.returns-then-level-eq0
 returns-then-level-eq0 c =
     let a = c.args in
-    rw c.requires.1 (front-none a.len a.level a.cells.now (omega arith))
-
-pub returns-then-step-lt8 : goal.returns-then-step-lt8
-returns-then-step-lt8 c =
-    let a = c.args in
-    rw c.requires.1 (front-none a.len a.level a.cells.now (omega arith))
+    front-none a.len a.level a.step a.cells.now (omega arith)
 
 pub returns : goal.returns
 returns c =
     let a = c.args in
-    rw c.requires.1 (front-run a.len a.level c.lead.result a.cells.now (omega arith) (omega arith) (λ e. omega arith) (omega arith) c.lead.ensures.0 c.lead.ensures.1)
+    rw c.requires.1 (front-run a.len a.level c.lead.result a.cells.now (omega arith) (omega arith) c.if-level-eq0.false c.told-cells c.lead.ensures.0 c.lead.ensures.1)

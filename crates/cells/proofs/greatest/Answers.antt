@@ -1,19 +1,12 @@
--- `cells::greatest` meets its contract: the greatest level is the best so far, or that of the cells left. Assumes nothing.
-use mathlib.Core.Path.{ap}
-use native.Mathlib.Omega.{arith}
-use lib.ListN.{drop_of_length-le}
-use Rattle.laws.specs.Lists.{drop-next}
-use Rattle.cells.specs.Meaning.{greatest_of}
+-- `cells::greatest` meets its contract: the greatest so far, up to the last cell. Assumes nothing.
+use mathlib.Core.Path.{◌∙◌}
+use Prim.Native.Nat.{max}
+use borrow.Author.Rules.{rules}
+use Rattle.std.proofs.lemmas.Iterator.{YieldsList-from_slice}
+use Rattle.std.proofs.lemmas.Iterator.Consumers.{fold_from_yields_List}
+use Rattle.cells.proofs.Laws.{greatest-fold}
 use Rattle.cells.proofs.greatest.Goals as goal
-use Rattle.cells.proofs.greatest.Goals.{else-best-x, then-best-x}
-
-pub loop-i-preserved : goal.loop-i-preserved
-unfolding greatest_of
-loop-i-preserved c =
-    let e = ap greatest_of (drop-next c.args.cells.now c.loop-i.i (omega arith)) in
-    elim c.if-best-x.branch [ then-best-x w ↦ omega arith | else-best-x w ↦ omega arith ]
 
 pub returns : goal.returns
-unfolding greatest_of
 returns c =
-    omega (arith, ap greatest_of (drop_of_length-le c.args.cells.now c.loop-i-test.false))
+    fold_from_yields_List _ max 0 c.fold.result c.fold.ensures.ran (YieldsList-from_slice c.args.cells.now cc) (λ a x b q k. search rules) ∙ greatest-fold c.args.cells.now

@@ -1,23 +1,17 @@
--- `cells::room_above` meets its contract: the greatest level is what the best so far leaves of 255, or that of the cells left. Assumes nothing.
-use mathlib.Core.Path.{ap}
+-- `cells::room_above` meets its contract: the least room so far, up to the last cell. Assumes nothing.
+use mathlib.Core.Path.{◌≡◌}
+use Prim.Native.Nat.{◌-◌, min}
 use native.Mathlib.Omega.{arith}
-use lib.ListN.{drop_of_length-le}
-use Rattle.laws.specs.Lists.{drop-next}
-use Rattle.cells.specs.Meaning.{greatest_of}
+use borrow.Author.Rules.{rules}
+use Rattle.std.specs.List.{fold}
+use Rattle.std.proofs.lemmas.Iterator.{YieldsList-from_slice}
+use Rattle.std.proofs.lemmas.Iterator.Consumers.{fold_from_yields_List}
+use Rattle.laws.specs.Lists.{low-all}
+use Rattle.cells.proofs.Laws.{room-fold}
 use Rattle.cells.proofs.room_above.Goals as goal
-use Rattle.cells.proofs.room_above.Goals.{else-x-best, then-x-best}
-
-pub overflow_sub-x : goal.overflow_sub-x
-overflow_sub-x c = omega (arith, c.shared_slice_known-1.given c.loop-i.i)
-
-pub loop-i-preserved : goal.loop-i-preserved
-unfolding greatest_of
-loop-i-preserved c =
-    let e = ap greatest_of (drop-next c.args.cells.now c.loop-i.i (omega arith)) in
-    let f = c.shared_slice_known-1.given c.loop-i.i in
-    elim c.if-x-best.branch [ then-x-best w ↦ omega (arith, f) | else-x-best w ↦ omega (arith, f) ]
 
 pub returns : goal.returns
-unfolding greatest_of
 returns c =
-    omega (arith, ap greatest_of (drop_of_length-le c.args.cells.now c.loop-i-test.false))
+    let e : c.fold.result ≡ fold (λ a x. min a (255 - x)) 255 c.args.cells.now =
+    fold_from_yields_List _ (λ a x. min a (255 - x)) 255 c.fold.result c.fold.ensures.ran (YieldsList-from_slice c.args.cells.now cc) (λ a x b q k. search rules) in
+    omega (arith, e, room-fold c.args.cells.now (low-all 255 c.args.cells.now (λ i l. omega (arith, c.type_inv.cells i))))

@@ -1,13 +1,14 @@
 -- `moving::route_of` meets its contract: block after block the route holds what the blocks passed say. Assumes nothing.
-use Prim.Native.Nat.{◌*◌, ◌-◌, ◌%◌, ◌≤◌}
-use lib.ListN.{get_or}
-use Rattle.rules.specs.Cells.{chop, tabulate}
+use Rattle.std.proofs.Common.{◌≡◌, ◌≤◌}
+use Rattle.plan.specs.Meaning.{value_in}
+use Rattle.rules.specs.Cells.{tabulate}
 use Rattle.rules.specs.Staged.{after}
-use Rattle.moving.specs.Meaning.{Passing}
+use Rattle.moving.specs.RouteLaws.{Past}
 use Rattle.moving.proofs.route_of.Given as goal
 
-abbrev pub invariant-loop-at : goal.invariant-loop-at
-invariant-loop-at l = (l.at ≤ l.count) × (l.route.live ≤ l.at) × Passing (l.len * l.top) (tabulate l.k (after l.bit (λ y. get_or l.weights y 0 % 2))) (chop l.len l.at l.cells) l.route
-
-abbrev pub decreases-loop-at : goal.decreases-loop-at
-decreases-loop-at l = l.count - l.at
+abbrev pub invariant-loop-block : goal.invariant-loop-block
+invariant-loop-block l = record {
+  of : l.block-iterator.blocks ≡ l.blocks;
+  few : l.live ≤ l.block-iterator.at;
+  past : Past l.blocks (tabulate l.k (after l.bit (value_in l.bits))) l.block-iterator.at l.live l.recorders;
+}

@@ -1,25 +1,29 @@
 -- `plain::check_repeats` meets its contract: the bits below the later one differ, and it is none of those below the earlier one. Assumes nothing.
-use mathlib.Core.Path.{◌≡◌}
-use native.Mathlib.Omega.{arith}
-use lib.ListN.{get_or, take}
-use Rattle.plain.specs.Laws.{absent_more, differing-done, differing-not, distinct_more}
+use Rattle.std.proofs.Common.{arith, get_or-take, length-take-le, sym, ◌<◌, ◌∙◌, ◌≡◌, take, length}
+use Rattle.plain.specs.Laws.{absent_more, differing-not, distinct_more}
 use Rattle.plain.proofs.check_repeats.Goals as goal
-use Rattle.plain.proofs.check_repeats.Goals.{else-pairs-test, then-pairs-test+then-loop-earlier-test+then-bits-earlier}
+use Rattle.plain.proofs.check_repeats.Goals.{At-loop-earlier}
+
+-- the bits below the later one are so many
+earlier_bits : (c : At-loop-earlier) → length (take c.pairs.later c.args.noted.now) ≡ c.pairs.later
+earlier_bits c = length-take-le c.pairs.later c.args.noted.now (omega arith)
 
 pub loop-earlier-preserved : goal.loop-earlier-preserved
 loop-earlier-preserved c =
-    (omega arith, absent_more (get_or c.args.bits c.pairs.later 0) c.loop-earlier.earlier c.args.bits (omega arith) c.loop-earlier.invariant.1 c.if-bits-earlier.false)
+    let h : c.loop-earlier.earlier-index < c.pairs.later = omega (arith, earlier_bits (goal.at.loop-earlier-preserved c).At-loop-earlier) in
+    record {
+      none = c.loop-earlier.invariant.none;
+      absent = absent_more _ _ c.args.noted.now (omega arith) c.loop-earlier.invariant.absent
+          (λ e. c.if-earlier-bit.false (get_or-take c.pairs.later c.args.noted.now c.loop-earlier.earlier-index 0 h ∙ e));
+    }
 
 pub pairs-preserved : goal.pairs-preserved
 pairs-preserved c =
-    let e : c.loop-earlier.earlier ≡ c.pairs.later = omega arith in
-    (omega arith, distinct_more c.pairs.later c.args.bits (omega arith) c.pairs.invariant.1 (rw e at c.loop-earlier.invariant.1))
+    let e : c.loop-earlier.earlier-index ≡ c.pairs.later = omega (arith, earlier_bits (goal.at.pairs-preserved c).At-loop-earlier) in
+    record { none = c.loop-earlier.invariant.none; apart = distinct_more _ c.args.noted.now c.pairs-test.true c.pairs.invariant.apart (rw e at c.loop-earlier.invariant.absent) }
 
-pub returns-then-later-n : goal.returns-then-later-n
-returns-then-later-n c =
-    elim c.pairs-test.branch [ else-pairs-test w ↦ absurd (omega (arith, w.pairs-test.false)) | then-pairs-test+then-loop-earlier-test+then-bits-earlier w ↦ differing-not w.loop-earlier.earlier c.pairs.later c.args.n c.args.bits w.loop-earlier-test.true c.if-later-n.true (omega arith) w.if-bits-earlier.true ]
-
-pub returns : goal.returns
-returns c =
-    let e : c.pairs.later ≡ c.args.n = omega arith in
-    differing-done (take c.args.n c.args.bits) (rw e at c.pairs.invariant.1)
+pub returns-then-earlier-bit : goal.returns-then-earlier-bit
+returns-then-earlier-bit c =
+    let h : c.loop-earlier.earlier-index < c.pairs.later = omega (arith, earlier_bits (goal.at.returns-then-earlier-bit c).At-loop-earlier) in
+    differing-not c.loop-earlier.earlier-index c.pairs.later c.args.noted.now h c.pairs-test.true
+    (sym (get_or-take c.pairs.later c.args.noted.now c.loop-earlier.earlier-index 0 h) ∙ c.if-earlier-bit.true)

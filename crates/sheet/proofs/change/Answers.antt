@@ -1,41 +1,61 @@
 -- A change answers by the checks in number order: look, plan, and then the plan carried out.
-use mathlib.Core.Path.{refl, sym, ap, ◌∙◌}
+use mathlib.Core.Path.{◌≡◌, refl, sym, ap, subst, ◌∙◌}
+use Prim.Native.Nat.{◌-◌}
+use Rattle.plan.specs.Meaning.{Planned, carried, value_in}
 use Rattle.rules.specs.Calls.{outcome}
 use Rattle.rules.specs.PromiseLaws.{told}
-use Rattle.sheet.specs.CallLaws.{change-bit, change-passed, change-refused, change-sound, seen-is, sized}
-use Rattle.sheet.specs.ChangeLaws.{carried-done, carried_none, place_none, place-zero, seen-stage}
+use Rattle.rules.specs.Staged.{after}
+use Rattle.rules.specs.declared.Settings.{Settings}
+use Rattle.sheet.specs.CallLaws.{Looked, change-looked, change-refused, accepted-asks, accepted-levelled, accepted-told, look-refused}
+use Rattle.sheet.specs.ChangeLaws.{carried-done, carried_none, place_none, seen-stage}
+use Rattle.sheet.specs.declared.checks.Asked.TheVariants.{Bit}
 use Rattle.sheet.proofs.change.Goals as goal
-
-pub look_at-look-requires : goal.look_at-look-requires
-look_at-look-requires c = c.sizes_of-sizes.ensures
+use Rattle.sheet.proofs.change.Goals.{In-Done-answer}
 
 pub returns-in_default : goal.returns-in_default
-returns-in_default c = told (change-refused _ _ _ _ _ c.look_at-look.ensures refl c.in_default.not-Done)
+returns-in_default c =
+    told (change-refused _ _ _ _ _ (look-refused _ _ _ _ c.check_call-checked.ensures c.in_default.not-Done) refl c.in_default.not-Done)
 
-pub plan_change-plan-requires : goal.plan_change-plan-requires
-plan_change-plan-requires c =
-    let h = c.look_at-look.ensures in
-    let e = c.in-Done.is in
-    let g = h.look _ e in
-    (g.1, change-bit _ _ _ _ _ h e, g.0, (seen-is _ _ _ _ g.2 e).1, sized _ _ c.sizes_of-sizes.ensures g.0)
+pub of-accepted-requires : goal.of-accepted-requires
+of-accepted-requires c = accepted-asks _ _ (Bit _) c.check_call-checked.ensures c.in-Done.is _ c.blocks-blocks.ensures
+
+pub look-look-requires : goal.look-look-requires
+look-look-requires c = accepted-levelled _ _ (Bit _) c.check_call-checked.ensures c.in-Done.is c.of-accepted.result c.of-accepted.ensures
+
+pub returns-in_default-answer : goal.returns-in_default-answer
+returns-in_default-answer c =
+    let h = accepted-told _ _ (Bit _) c.check_call-checked.ensures c.in-Done.is c.of-accepted.result c.of-accepted.ensures _ c.look-look.ensures in
+    told (change-refused _ _ _ _ _ h refl c.in_default-answer.not-Done)
+
+-- what the look says where every check passed
+looked : (c : In-Done-answer) → Looked c.args.settings c.args.sheet.now c.args.bit c.look-look.result c.in-Done-answer.stage
+looked c = change-looked _ _ _ _ _ (accepted-told c.args.settings _ (Bit _) c.check_call-checked.ensures c.in-Done.is c.of-accepted.result c.of-accepted.ensures _ c.look-look.ensures) c.in-Done-answer.is
+
+pub plan-plan-requires : goal.plan-plan-requires
+plan-plan-requires c =
+    let g = looked (goal.at.plan-plan-requires c).In-Done-answer in
+    rw c.of-accepted.ensures (g.levelled, g.bit, g.seen)
 
 pub returns-in_default-placed : goal.returns-in_default-placed
 returns-in_default-placed c =
-    let h = c.look_at-look.ensures in
-    let e = c.in-Done.is in
-    let n = place_none c.plan_change-plan.result (λ v q. c.in_default-placed.not-Done v (c.check_place-placed.ensures ∙ q)) in
+    let r = c.args.settings in
+    let g = looked (goal.at.returns-in_default-placed c).In-Done-answer in
+    let n = place_none c.plan-plan.result (λ v q. c.in_default-placed.not-Done v (c.check_place-placed.ensures ∙ q)) in
+    let y = subst (λ (x : Settings). Planned x c.args.sheet.now c.args.bit (x.s - 1 - c.in-Done-answer.stage) c.look-look.result.bits c.plan-plan.result) c.of-accepted.ensures c.plan-plan.ensures in
     told (ap (λ x. outcome x c.args.sheet.now) (c.check_place-placed.ensures ∙ n.1)
-    ∙ carried_none c.args.settings c.args.sheet.now (change-sound _ _ _ _ _ h e) c.args.bit _ _ c.plan_change-plan.result c.plan_change-plan.ensures n.0 ∙ change-passed _ _ _ _ _ h e)
+    ∙ carried_none r c.args.sheet.now g.sound c.args.bit _ _ c.plan-plan.result y n.0 ∙ g.maps)
 
-pub carry-requires : goal.carry-requires
-carry-requires c =
-    let h = c.look_at-look.ensures in
-    let e = c.in-Done.is in
-    let g = h.look _ e in record { sheet_fits = (g.1, change-bit _ _ _ _ _ h e, sized _ _ c.sizes_of-sizes.ensures g.0, seen-stage _ _ _ _ (seen-is _ _ _ _ g.2 e).1); plan_fits = (c.plan_change-plan.ensures.fits, place-zero c.plan_change-plan.result _ (sym c.check_place-placed.ensures ∙ c.in-Done-placed.is)) }
+pub carry-requires-clause-sheet_fits : goal.carry-requires-clause-sheet_fits
+carry-requires-clause-sheet_fits c =
+    let g = looked (goal.at.carry-requires-clause-sheet_fits c).In-Done-answer in
+    rw c.of-accepted.ensures (g.levelled, g.bit, seen-stage _ _ _ _ g.seen)
 
 pub returns : goal.returns
 returns c =
-    let h = c.look_at-look.ensures in
-    let e = c.in-Done.is in
-    told (carried-done c.args.settings c.args.sheet.now (change-sound _ _ _ _ _ h e) c.args.bit _ _ c.plan_change-plan.result _ _ _ c.plan_change-plan.ensures (sym c.check_place-placed.ensures ∙ c.in-Done-placed.is) c.carry.ensures.sheet_after c.carry.ensures.levels_raised
-    ∙ change-passed _ _ _ _ _ h e)
+    let r = c.args.settings in
+    let a = c.args in
+    let g = looked (goal.at.returns c).In-Done-answer in
+    let y = subst (λ (x : Settings). Planned x a.sheet.now a.bit (x.s - 1 - c.in-Done-answer.stage) c.look-look.result.bits c.plan-plan.result) c.of-accepted.ensures c.plan-plan.ensures in
+    let z = subst (λ (x : Settings). c.carry.new.sheet ≡ carried x a.bit (x.s - 1 - c.in-Done-answer.stage) (after a.bit (value_in c.look-look.result.bits)) a.sheet.now c.plan-plan.result) c.of-accepted.ensures c.carry.ensures.sheet_after in
+    told (carried-done r a.sheet.now g.sound a.bit _ _ c.plan-plan.result _ _ _ y (sym c.check_place-placed.ensures ∙ c.in-Done-placed.is) z c.carry.ensures.levels_raised
+    ∙ g.maps)

@@ -10,9 +10,6 @@ use Rattle.rules.specs.declared.Answer.TheVariants.{Done}
 use Rattle.laws.specs.Calls.{checked-holds, erase-checks, erase-first, refusal-told}
 use Rattle.sheet.proofs.erase.Goals as goal
 
-pub check_size-size-requires : goal.check_size-size-requires
-check_size-size-requires c = c.blocks-2.ensures
-
 pub returns-in_default : goal.returns-in_default
 returns-in_default c =
     told (sym (erase-first c.args.settings c.args.sheet.now (sym c.check_size-size.ensures ∙ refusal-told c.check_size-size.result c.in_default.not-Done)))

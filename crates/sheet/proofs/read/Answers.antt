@@ -3,20 +3,32 @@ use mathlib.Core.Path.{refl}
 use native.Mathlib.Omega.{arith}
 use Rattle.rules.specs.AcceptLaws.{genuine-common}
 use Rattle.rules.specs.PromiseLaws.{told-read}
-use Rattle.sheet.specs.CallLaws.{read_made, read-places, read-refused}
+use Rattle.sheet.specs.CallLaws.{accepted-asks, accepted-levelled, accepted-told, look-refused, read_made, read-places, read-refused}
+use Rattle.sheet.specs.declared.checks.Asked.TheVariants.{Places}
 use Rattle.sheet.proofs.read.Goals as goal
 
-pub look_at-look-requires : goal.look_at-look-requires
-look_at-look-requires c = c.sizes_of.ensures
-
 pub returns-in_default : goal.returns-in_default
-returns-in_default c = told-read (read-refused _ _ _ _ _ c.look_at-look.ensures refl c.in_default.not-Done)
+returns-in_default c =
+    told-read (read-refused _ _ _ _ _ (look-refused _ _ _ _ c.check_call-checked.ensures c.in_default.not-Done) refl c.in_default.not-Done)
+
+pub of-requires : goal.of-requires
+of-requires c = accepted-asks _ _ (Places _) c.check_call-checked.ensures c.in-Done.is _ c.blocks-blocks.ensures
+
+pub look-look-requires : goal.look-look-requires
+look-look-requires c = accepted-levelled _ _ (Places _) c.check_call-checked.ensures c.in-Done.is c.of.result c.of.ensures
+
+pub returns-in_default-answer : goal.returns-in_default-answer
+returns-in_default-answer c =
+    let h = accepted-told _ _ (Places _) c.check_call-checked.ensures c.in-Done.is c.of.result c.of.ensures _ c.look-look.ensures in
+    told-read (read-refused _ _ _ _ _ h refl c.in_default-answer.not-Done)
 
 pub write_bits-requires : goal.write_bits-requires
 write_bits-requires c =
-    let a = c.args in
-    (omega (arith, (genuine-common _ (c.look_at-look.ensures.look _ c.in-Done.is).0).bits_most), read-places a.settings a.sheet.now a.out.now _ _ c.look_at-look.ensures c.in-Done.is)
+    let h = accepted-told _ _ (Places _) c.check_call-checked.ensures c.in-Done.is c.of.result c.of.ensures _ c.look-look.ensures in
+    let e = c.in-Done-answer.is in
+    (omega (arith, (genuine-common _ (h.look _ e).0).bits_most), read-places _ _ _ _ _ h e)
 
 pub returns : goal.returns
 returns c =
-    told-read (read_made _ _ _ _ _ _ _ c.look_at-look.ensures c.in-Done.is c.write_bits.ensures.ones c.write_bits.ensures.places)
+    let h = accepted-told _ _ (Places _) c.check_call-checked.ensures c.in-Done.is c.of.result c.of.ensures _ c.look-look.ensures in
+    told-read (read_made _ _ _ _ _ _ _ h c.in-Done-answer.is c.write_bits.ensures.ones c.write_bits.ensures.places)

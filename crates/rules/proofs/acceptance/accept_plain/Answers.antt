@@ -1,39 +1,21 @@
 -- Each refusal breaks a rule of kind 0, and what is left keeps them all.
-use Prim.Native.Nat.{◌≤◌}
-use mathlib.Core.Path.{sym}
-use native.Mathlib.Omega.{arith}
-use native.Mathlib.Nat.{mul-le-mul}
-use Rattle.rules.specs.Accept.{most_bits, most_top}
-use Rattle.rules.specs.AcceptLaws.{plain-ruled, ruled-kept, ruled-broken}
+use Rattle.std.proofs.Common.{◌∙◌, true≢false, sym, refl, arith}
+use Rattle.std.proofs.lemmas.Bool.{leb-true, leb-false}
+use Rattle.rules.specs.AcceptLaws.{plain-ruled, if-broken, if-tested}
 use Rattle.rules.proofs.acceptance.accept_plain.Goals as goal
+use Rattle.rules.proofs.acceptance.accept_plain.Goals.{then-not-in_limits-via-then-not-in_limits, then-not-in_limits-via-else-not-in_limits+then-k-top-ne0}
 
-pub returns-then-k-lt2 : goal.returns-then-k-lt2
-returns-then-k-lt2 c = sym (ruled-broken (plain-ruled _ _ _) (λ a. omega arith))
-
-pub returns-then-k-gt-MOST_BITS : goal.returns-then-k-gt-MOST_BITS
-returns-then-k-gt-MOST_BITS c = sym (ruled-broken (plain-ruled _ _ _) (λ a. omega arith))
-
-pub returns-then-top-lt1 : goal.returns-then-top-lt1
-returns-then-top-lt1 c = sym (ruled-broken (plain-ruled _ _ _) (λ a. omega arith))
-
-pub returns-then-top-gt-MOST_TOP : goal.returns-then-top-gt-MOST_TOP
-returns-then-top-gt-MOST_TOP c = sym (ruled-broken (plain-ruled _ _ _) (λ a. omega arith))
-
-pub returns-then-n-gt-MOST_CELLS : goal.returns-then-n-gt-MOST_CELLS
-returns-then-n-gt-MOST_CELLS c = sym (ruled-broken (plain-ruled _ _ _) (λ a. omega arith))
-
-pub overflow_mul-k : goal.overflow_mul-k
-overflow_mul-k c =
-    let a = c.args in
-    let h : a.k ≤ most_bits = omega arith in
-    let g : a.top ≤ most_top = omega arith in
-    omega (arith, mul-le-mul h g)
-
-pub returns-then-k-top-ne0 : goal.returns-then-k-top-ne0
-returns-then-k-top-ne0 c = sym (ruled-broken (plain-ruled _ _ _) (λ a. omega arith))
-
-pub returns-then-m-k : goal.returns-then-m-k
-returns-then-m-k c = sym (ruled-broken (plain-ruled _ _ _) (λ a. omega arith))
+pub returns-then-not-in_limits : goal.returns-then-not-in_limits
+returns-then-not-in_limits c =
+    elim c.then-not-in_limits.branch [
+      | then-not-in_limits-via-then-not-in_limits w ↦ if-broken (plain-ruled _ _ _) (λ a. true≢false (sym (w.if-not-in_limits.ensures.1 (a.bits-least, a.bits_most, a.top_least, a.top-most, a.cells-most))))
+      | then-not-in_limits-via-else-not-in_limits+then-k-top-ne0 w ↦ if-broken (plain-ruled _ _ _) (λ a. omega (arith, a.even))
+    ]
 
 pub returns : goal.returns
-returns c = sym (ruled-kept (plain-ruled _ _ _) (record { bits-least = omega arith; bits_most = omega arith; top_least = omega arith; top-most = omega arith; cells-most = omega arith; even = omega arith; room = omega arith }))
+returns c =
+    let h = c.if-not-in_limits.ensures.0 refl in
+    c.then_some.ensures
+    ∙ if-tested (plain-ruled _ _ _) (omega arith) _
+    (λ e. record { bits-least = h.0; bits_most = h.1; top_least = h.2; top-most = h.3; cells-most = h.4; even = omega arith; room = leb-true _ _ e })
+    (λ e a. omega (arith, leb-false _ _ e, a.room))

@@ -1,7 +1,0 @@
--- The text fits, so every place does.
-use native.Mathlib.Omega.{arith}
-use lib.ListN.{length-set}
-use Rattle.drive.proofs.put.Goals as goal
-
-pub loop-i-preserved : goal.loop-i-preserved
-loop-i-preserved c = simp length-set (omega arith)

@@ -1,0 +1,2 @@
+-- The laws that only the proofs of this crate cite.
+mod TurnLaws

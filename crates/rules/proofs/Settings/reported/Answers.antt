@@ -1,0 +1,11 @@
+-- A record that acceptance never gives reports 0.
+use Rattle.std.proofs.Common.{sym}
+use Rattle.rules.specs.AcceptLaws.{genuine-true, genuine-false}
+use Rattle.rules.specs.GuaranteeLaws.{reported-is, reported-none}
+use Rattle.rules.proofs.Settings.reported.Goals as goal
+
+pub returns-then-genuine : goal.returns-then-genuine
+returns-then-genuine c = sym (reported-is _ _ (genuine-true _ (sym c.if-genuine.ensures)))
+
+pub returns-else-genuine : goal.returns-else-genuine
+returns-else-genuine c = sym (reported-none _ _ (genuine-false _ (sym c.if-genuine.ensures)))
