@@ -22,7 +22,7 @@ use Rattle.cells.specs.Meaning.{greatest_of, least_of}
 -- ---- the first cell above L
 
 -- an answer that means the first cell above L is it
-above-is : (L : ℕ) (s : List ℕ) {f : Found} → First (λ c. L < get_or s c 0) (length s) f → f ≡ first_above L s
+pub above-is : (L : ℕ) (s : List ℕ) {f : Found} → First (λ c. L < get_or s c 0) (length s) f → f ≡ first_above L s
 unfolding first_above
 above-is L s h = sym (first-eq (λ c. dec_lt L (get_or s c 0)) (length s) h)
 

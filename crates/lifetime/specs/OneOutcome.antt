@@ -1,11 +1,15 @@
 -- No second outcome: whatever meets a public call's promise for one input is one and the same. Assumes nothing.
-use Rattle.std.specs.Prelude.{◌≡◌, Bool, List, ℕ}
-use Rattle.std.proofs.Common.{sym, ◌∙◌}
+use Rattle.std.specs.Prelude.{◌≡◌, refl, Bool, List, ℕ, Result, Ok, Err}
+use Rattle.std.proofs.Common.{sym, ap, ◌∙◌, arith}
 use Rattle.rules.specs.Answer.{number_of, value_of}
 use Rattle.rules.specs.AnswerLaws.{answer-one}
-use Rattle.rules.specs.Promises.{Gives, SettingsPromise, ErasePromise, ReadPromise, ChangePromise, WorkOutPromise, GenuinePromise, GuaranteePromise, BlocksPromise, WidthPromise, BatchStartPromise, NumberPromise, ValuePromise, RecordPromise, SumPromise, BitsPromise, SettingsIntoPromise, EraseByPromise, ReadByPromise, ChangeByPromise, VersionPromise}
+use Rattle.rules.specs.Asked.{number_of_kind}
+use Rattle.rules.specs.Promises.{Gives, SettingsPromise, ErasePromise, ReadPromise, ChangePromise, WorkOutPromise, GenuinePromise, GuaranteePromise, BlocksPromise, WidthPromise, BatchStartPromise, NumberPromise, ValuePromise, KindPromise, RecordPromise, SumPromise, BitsPromise, SettingsIntoPromise, EraseByPromise, ReadByPromise, ChangeByPromise, VersionPromise}
 use Rattle.rules.specs.declared.Settings.{Settings}
 use Rattle.rules.specs.declared.Answer.{Answer}
+use Rattle.rules.specs.declared.Kind.{Kind}
+use Rattle.rules.specs.declared.Kind.TheVariants.{Plain, Staged}
+use Rattle.rules.specs.declared.NoKind.{NoKind}
 
 -- two things equal to a third are equal
 pub both_equal : {A : Type 0} {x y z : A} → x ≡ z → y ≡ z → x ≡ y
@@ -78,6 +82,22 @@ number-one x a b p q = both_equal p q
 -- its value
 pub value-one : (x : Answer) (a b : ℕ) → ValuePromise x a → ValuePromise x b → a ≡ b
 value-one x a b p q = both_equal p q
+
+-- ---- a kind of sheet
+
+-- kinds with one number are one
+kinds-one : (a b : Kind) → number_of_kind a ≡ number_of_kind b → a ≡ b
+kinds-one Plain Plain e = refl
+kinds-one Plain Staged e = absurd (omega (arith, e))
+kinds-one Staged Plain e = absurd (omega (arith, e))
+kinds-one Staged Staged e = refl
+
+-- the kind that a number names
+pub kind-one : (n : ℕ) (a b : Result Kind NoKind) → KindPromise n a → KindPromise n b → a ≡ b
+kind-one n (Ok a) (Ok b) p q = ap Ok (kinds-one a b (sym p ∙ q))
+kind-one n (Ok a) (Err e) p q = absurd (q a p)
+kind-one n (Err e) (Ok b) p q = absurd (p b q)
+kind-one n (Err e) (Err f) p q = refl
 
 -- ---- a record of the program
 

@@ -18,6 +18,7 @@ use Rattle.moving.specs.declared.route.Mark.{Mark}
 use Rattle.moving.specs.declared.route.Mark.TheVariants.{Filled, Raised, Stays}
 use Rattle.moving.specs.declared.route.Recorder.{Recorder}
 use Rattle.index.specs.declared.Region.{Region}
+use Rattle.moving.specs.declared.route.ParityBlocks.{ParityBlocks}
 use Rattle.moving.specs.declared.route.Route.{Route}
 
 -- ---- the route
@@ -170,9 +171,13 @@ moved_in region route vs f = moved_above region.cell route.parity.len route.pari
 abbrev pub HasRoute : Region → Route → List ℕ → Type 0
 HasRoute region route f = (vs : List ℕ) × MoveFits region vs route f
 
--- what the move by a route needs: whatever the values that have that route, it is what the move of these needs
+-- the same recorders among other parity blocks, of cells with another top level
+abbrev pub taken_over : ParityBlocks → ℕ → Route → Route
+taken_over parity L route = record { parity = parity; top = L; k = route.k; live = route.live; recorders = route.recorders; few = route.few }
+
+-- what the move by a route's recorders needs: whatever the parity blocks, the top level and the values that have that route, it is what the move of these needs
 abbrev pub RouteNeeds : Region → Route → List ℕ → Need → Type 0
-RouteNeeds region route f need = (vs : List ℕ) → MoveFits region vs route f → Needs f (moved_in region route vs f) need
+RouteNeeds region route f need = (parity : ParityBlocks) (L : ℕ) (vs : List ℕ) → MoveFits region vs (taken_over parity L route) f → Needs f (moved_in region (taken_over parity L route) vs f) need
 
 -- the sheet after the move by a route: whatever the values that have that route, it is the move of these
 abbrev pub RouteMoves : Region → Route → List ℕ → List ℕ → Type 0

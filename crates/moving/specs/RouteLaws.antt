@@ -23,7 +23,7 @@ use Rattle.moving.specs.declared.route.Recorder.{Recorder}
 use Rattle.moving.specs.declared.route.Route.{Route}
 
 -- nothing is passed at first
-passing-none : (W : ℕ) (vs : List ℕ) → Passing W vs [] 0 (replicate 64 blank)
+pub passing-none : (W : ℕ) (vs : List ℕ) → Passing W vs [] 0 (replicate 64 blank)
 passing-none W vs = record {
   met = sym (live-none W);
   room = refl;

@@ -14,8 +14,12 @@ use cells::blocks::Blocks;
 pub fn raise_one(b: &mut [u8], top: u8)
     ensures { b.new ≡ raise top b.old }
 {
-    if let Some(i) = b.iter().position(|&x| x < top) {
-        b[i] += 1;
+    for i in 0..b.len() {
+        let level = b[i];
+        if level < top {
+            b[i] = level + 1;
+            return;
+        }
     }
 }
 

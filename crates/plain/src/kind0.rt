@@ -7,7 +7,7 @@ ghost use Rattle.plain.specs.Meaning.{PlainLook};
 use crate::scan_blocks;
 use cells::all_zero;
 use cells::blocks::Blocks;
-use plan::{Look, unseen};
+use plan::Look;
 use rules::{Answer, Settings};
 
 // Accepted settings of kind 0, with the number of blocks, which their method gave once for the call.
@@ -21,20 +21,21 @@ pub struct PlainSettings {
 
 impl PlainSettings {
     // Check 6: the spare cells are 0, and the blocks keep the rules.
-    pub fn look(self, sheet: &[u8]) -> Look
+    pub fn look(self, sheet: &[u8], look: &mut Look)
         requires { Levelled self.settings sheet.now }
-        ensures { PlainLook self.settings sheet.now result }
+        ensures { PlainLook self.settings sheet.now look.new }
     {
         let settings = self.settings;
         let a = self.blocks * settings.k;
         if !all_zero(&sheet[a..]) {
-            return unseen(Answer::BadSheet);
+            return look.clear(Answer::BadSheet);
         }
-        scan_blocks(Blocks {
+        let blocks = Blocks {
             cells: sheet,
             len: settings.k,
             count: self.blocks,
             top: settings.top as u8,
-        })
+        };
+        scan_blocks(blocks, look);
     }
 }

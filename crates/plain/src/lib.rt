@@ -15,7 +15,7 @@ use block::BlockState;
 use block::states::States;
 use cells::all_zero;
 use cells::blocks::Blocks;
-use plan::{Look, Place, Plan, unseen, value_of};
+use plan::{Look, Place, Plan, value_of};
 use rules::{Answer, MOST_BITS};
 
 // Whether the bits noted differ: each is held against every earlier one, and both loops are left at the first that an earlier one equals.
@@ -67,13 +67,12 @@ fn block_at(j: usize, weight: usize) -> Place
 
 // One pass over the blocks: those in use with their states, and at the first empty one all that come after it; then the search for a repeat.
 // k + 1 bits below k can't all differ, so no more are noted.
-pub fn scan_blocks(blocks: Blocks) -> Look
+pub fn scan_blocks(blocks: Blocks, look: &mut Look)
     requires { (2 ≤ blocks.len) × (blocks.len ≤ most_bits) × (1 ≤ blocks.top) }
-    ensures { Scanned blocks.entry.len blocks.entry.top blocks.entry.count blocks.entry.cells.now result }
+    ensures { Scanned blocks.entry.len blocks.entry.top blocks.entry.count blocks.entry.cells.now look.new }
 {
+    look.clear(Answer::Done(0));
     let states = States::of(blocks);
-    let mut bits = [None; MOST_BITS];
-    let mut free = None;
     let mut noted = [0u8; MOST_BITS + 1];
     let mut n: usize = 0;
     let mut full = false;
@@ -82,29 +81,28 @@ pub fn scan_blocks(blocks: Blocks) -> Look
             BlockState::Full => full = true,
             BlockState::Empty => {
                 if !rest_empty(blocks, states.step, j + 1) {
-                    return unseen(Answer::BadSheet);
+                    look.answer = Answer::BadSheet;
+                    return;
                 }
-                free = Some(block_at(j, 0));
+                look.free = Some(block_at(j, 0));
                 break;
             }
-            BlockState::Broken => return unseen(Answer::BadSheet),
+            BlockState::Broken => {
+                look.answer = Answer::BadSheet;
+                return;
+            }
             BlockState::Active { bit, weight } => {
                 full = false;
                 noted[n] = bit as u8;
                 n += 1;
-                bits[bit] = Some(block_at(j, weight));
+                look.bits[bit] = Some(block_at(j, weight));
                 if blocks.len < n {
                     break;
                 }
             }
         }
     }
-    Look {
-        answer: check_last(full, n, blocks.len, check_repeats(&noted[..n])),
-        batch: 0,
-        bits,
-        free,
-    }
+    look.answer = check_last(full, n, blocks.len, check_repeats(&noted[..n]));
 }
 
 // The plan of a change among the blocks: the next step of the bit's block, or else of the lowest-numbered empty one; or no place.

@@ -56,6 +56,18 @@ pub fn unseen(answer: Answer) -> Look
     }
 }
 
+impl Look {
+    // Nothing is seen any more, and this is the answer.
+    pub fn clear(&mut self, answer: Answer)
+        ensures { self.new ≡ unseen answer }
+    {
+        self.answer = answer;
+        self.batch = 0;
+        self.bits = [None; MOST_BITS];
+        self.free = None;
+    }
+}
+
 // A bit's value: the parity of its block's weight, 0 where it has none.
 pub fn value_of(bit: Option<Place>) -> u8
     ensures { result ≡ weight_in bit % 2 }

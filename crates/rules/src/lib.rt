@@ -1,8 +1,7 @@
 // The types that every crate shares: the settings of a sheet and the answer of a call. Assumes nothing.
 #![tactic(auto)]
 
-ghost use Rattle.rules.specs.Asked.{KindNamed};
-ghost use Rattle.rules.specs.Promises.{NumberPromise, ValuePromise};
+ghost use Rattle.rules.specs.Promises.{KindPromise, NumberPromise, ValuePromise};
 
 mod acceptance;
 
@@ -35,7 +34,7 @@ pub struct NoKind;
 impl TryFrom<usize> for Kind {
     type Error = NoKind;
 
-    ghost try_from_gives = { KindNamed };
+    ghost try_from_gives = { KindPromise };
 
     // The kind of a number.
     fn try_from(number: usize) -> Result<Kind, NoKind> {

@@ -49,13 +49,13 @@ impl Accepted {
     }
 
     // Check 6: the sheet keeps the sheet rules of its stage.
-    pub fn look(self, sheet: &[u8]) -> Look
+    pub fn look(self, sheet: &[u8], look: &mut Look)
         requires { Levelled (settings_of self) sheet.now }
-        ensures { SheetLook (settings_of self) sheet.now result }
+        ensures { SheetLook (settings_of self) sheet.now look.new }
     {
         match self {
-            Accepted::Plain(of) => of.look(sheet),
-            Accepted::Staged(of) => StagedSheet { of, cells: sheet }.look(),
+            Accepted::Plain(of) => of.look(sheet, look),
+            Accepted::Staged(of) => StagedSheet { of, cells: sheet }.look(look),
         }
     }
 

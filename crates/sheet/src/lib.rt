@@ -11,6 +11,7 @@ use accepted::Accepted;
 use cells::fill;
 use checks::{Asked, check_call, check_place, check_size};
 use plain::write_bits;
+use plan::unseen;
 use rules::{Answer, Settings};
 
 // Erase: all n cells are set to 0, and the guarantee is answered.
@@ -34,7 +35,8 @@ pub fn read(settings: Settings, sheet: &[u8], out: &mut [u8]) -> Answer
     let Answer::Done(_) = checked else {
         return checked;
     };
-    let look = Accepted::of(settings, blocks).look(sheet);
+    let mut look = unseen(Answer::BadSheet);
+    Accepted::of(settings, blocks).look(sheet, &mut look);
     let Answer::Done(_) = look.answer else {
         return look.answer;
     };
@@ -51,7 +53,8 @@ pub fn change(settings: Settings, sheet: &mut [u8], bit: usize) -> Answer
         return checked;
     };
     let accepted = Accepted::of(settings, blocks);
-    let look = accepted.look(sheet);
+    let mut look = unseen(Answer::BadSheet);
+    accepted.look(sheet, &mut look);
     let Answer::Done(stage) = look.answer else {
         return look.answer;
     };

@@ -8,22 +8,27 @@ ghost use Rattle.stage.specs.Meaning.{entries_in, Near, ScanFits, StageScanned, 
 
 use cells::blocks::Blocks;
 use index::Region;
-use plan::{Look, Place, Plan, unseen};
+use plan::{Look, Place, Plan};
 use rules::Answer;
 
 // The check of a stage, whose index blocks stand in a region of the sheet, and every bit's block: the j-th parity block that isn't full belongs to the j-th index block that isn't full.
-pub fn scan_stage(stage: usize, region: Region, blocks: Blocks, batch: &[u8], k: usize) -> Look
+pub fn scan_stage(
+    stage: usize,
+    region: Region,
+    blocks: Blocks,
+    batch: &[u8],
+    k: usize,
+    look: &mut Look,
+)
     requires { ScanFits blocks region k batch.now }
-    ensures { StageScanned stage region.cell k (blocks.entry.len * blocks.entry.top) (chop blocks.entry.len blocks.entry.count blocks.entry.cells.now) (entries_in region (2 * (k - 1)) batch.now) result }
+    ensures { StageScanned stage region.cell k (blocks.entry.len * blocks.entry.top) (chop blocks.entry.len blocks.entry.count blocks.entry.cells.now) (entries_in region (2 * (k - 1)) batch.now) look.new }
 {
-    let mut s = Look {
-        batch: region.cell,
-        ..unseen(Answer::Done(stage))
-    };
+    look.clear(Answer::Done(stage));
+    look.batch = region.cell;
     let mut indexes = region.open(batch, 2 * (k - 1));
     for (j, weight) in blocks.live() {
         let Some((slot, u)) = indexes.next() else {
-            return unseen(Answer::BadSheet);
+            return look.clear(Answer::BadSheet);
         };
         let place = Some(Place {
             block: j as u16,
@@ -31,18 +36,17 @@ pub fn scan_stage(stage: usize, region: Region, blocks: Blocks, batch: &[u8], k:
             weight: weight as u16,
         });
         if u == 0 {
-            s.free = s.free.or(place);
+            look.free = look.free.or(place);
             continue;
         }
         let bit = u - 1;
-        if k < u || s.bits[bit].is_some() {
-            return unseen(Answer::BadSheet);
+        if k < u || look.bits[bit].is_some() {
+            return look.clear(Answer::BadSheet);
         }
-        s.bits[bit] = place;
+        look.bits[bit] = place;
     }
-    match indexes.next() {
-        Some(_) => unseen(Answer::BadSheet),
-        None => s,
+    if let Some(_) = indexes.next() {
+        look.clear(Answer::BadSheet);
     }
 }
 

@@ -105,7 +105,7 @@ module _ (r : Settings) (p : StagedFacts r) (f : List ℕ) (v : Levelled r f) wh
     enough = omega (arith, live_here, k.enough, p.bits)
 
     -- its region has room
-    region-asks : RegionFits (region_at r e) r.k f
+    pub region-asks : RegionFits (region_at r e) r.k f
     region-asks =
         let b : 2 * (r.k - 1) * r.w ≡ batch_cells r.s r.w = batch-are r p in
         record {
@@ -118,7 +118,7 @@ module _ (r : Settings) (p : StagedFacts r) (f : List ℕ) (v : Levelled r f) wh
         }
 
     -- the move is the rules'
-    moved-rules : (g : ℕ → ℕ) → M.moved_above (batch_at r e) len count r.w 0 r.top r.k r.top (tabulate r.k g) f ≡ moved_sheet r f e g
+    pub moved-rules : (g : ℕ → ℕ) → M.moved_above (batch_at r e) len count r.w 0 r.top r.k r.top (tabulate r.k g) f ≡ moved_sheet r f e g
     moved-rules g =
         moved-floor (batch_at r e) len count r.w r.k r.top (tabulate r.k g) f
         ∙ move-is r.s r.m r.top r.w e (tabulate r.k g) f k.stage (batch_at r e) len count r.k refl refl refl (sym p.bits)
@@ -178,7 +178,7 @@ module _ (r : Settings) (p : StagedFacts r) (f : List ℕ) (v : Levelled r f) wh
 
         -- and needs what is told
         pub need-told : (n : Need) → M.RouteNeeds y route f n → Needs f (moved_sheet r f e g) n
-        need-told n m = subst (λ (ys : List ℕ). Needs f ys n) moved-is (m (tabulate r.k g) fits)
+        need-told n m = subst (λ (ys : List ℕ). Needs f ys n) moved-is (m route.parity route.top (tabulate r.k g) fits)
 
   module _ (i d : ℕ) (bits : List (Option Place)) (k : Stuck r f i d bits) where
     abbrev values : List ℕ

@@ -7,7 +7,7 @@ use crate::layout::StagedSheet;
 use cells::all_zero;
 use index::Regions;
 use plain::scan_blocks;
-use plan::{Look, unseen};
+use plan::Look;
 use rules::Answer;
 use stage::scan_stage;
 
@@ -29,17 +29,17 @@ impl StagedSheet<'_> {
     }
 
     // Stage 0: the plain rules on the m blocks.
-    fn look_stage0(&self) -> Look
+    fn look_stage0(&self, look: &mut Look)
         requires { AtStage self.now.of.settings self.now.cells.now nowhere }
-        ensures { StagedLook self.now.of.settings self.now.cells.now result }
+        ensures { StagedLook self.now.of.settings self.now.cells.now look.new }
     {
-        scan_blocks(self.m_blocks())
+        scan_blocks(self.m_blocks(), look);
     }
 
     // A stage from 1 up, with this many left: its parity blocks and its batch.
-    fn look_stage(&self, left: usize) -> Look
+    fn look_stage(&self, left: usize, look: &mut Look)
         requires { AtStage self.now.of.settings self.now.cells.now (at left) }
-        ensures { StagedLook self.now.of.settings self.now.cells.now result }
+        ensures { StagedLook self.now.of.settings self.now.cells.now look.new }
     {
         let settings = self.of.settings;
         let region = self.of.region_of(left);
@@ -50,20 +50,21 @@ impl StagedSheet<'_> {
             self.parity_blocks(left),
             &self.cells[region.cell..end],
             settings.k,
-        )
+            look,
+        );
     }
 
     // Check 6: the spare cells are 0, and the sheet keeps the rules of its stage.
-    pub fn look(&self) -> Look
-        ensures { StagedLook self.now.of.settings self.now.cells.now result }
+    pub fn look(&self, look: &mut Look)
+        ensures { StagedLook self.now.of.settings self.now.cells.now look.new }
     {
         let a = self.of.spare_at();
         if !all_zero(&self.cells[a..]) {
-            return unseen(Answer::BadSheet);
+            return look.clear(Answer::BadSheet);
         }
         match self.stage_left() {
-            Some(left) => self.look_stage(left),
-            None => self.look_stage0(),
+            Some(left) => self.look_stage(left, look),
+            None => self.look_stage0(look),
         }
     }
 }

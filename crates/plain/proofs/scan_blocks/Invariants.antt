@@ -15,8 +15,8 @@ invariant-loop-j l =
     record {
       of : l.j-iterator.blocks ≡ b;
       few : l.n ≤ b.len;
-      long : (length l.bits ≡ most_bits) × (length l.noted ≡ most_bits + 1);
-      noted : Noted b.len b.count st l.j-iterator.at l.bits (take l.n l.noted);
+      long : (length l.look.bits ≡ most_bits) × (length l.noted ≡ most_bits + 1);
+      noted : Noted b.len b.count st l.j-iterator.at l.look.bits (take l.n l.noted);
       ordered : Ordered st b.count l.j-iterator.at b.count l.full;
-      none : l.free ≡ None;
+      none : (l.look.free ≡ None) × (l.look.batch ≡ 0);
     }

@@ -14,21 +14,21 @@ returns-in_default c =
 pub of-requires : goal.of-requires
 of-requires c = accepted-asks _ _ (Places _) c.check_call-checked.ensures c.in-Done.is _ c.blocks-blocks.ensures
 
-pub look-look-requires : goal.look-look-requires
-look-look-requires c = accepted-levelled _ _ (Places _) c.check_call-checked.ensures c.in-Done.is c.of.result c.of.ensures
+pub look-requires : goal.look-requires
+look-requires c = accepted-levelled _ _ (Places _) c.check_call-checked.ensures c.in-Done.is c.of.result c.of.ensures
 
 pub returns-in_default-answer : goal.returns-in_default-answer
 returns-in_default-answer c =
-    let h = accepted-told _ _ (Places _) c.check_call-checked.ensures c.in-Done.is c.of.result c.of.ensures _ c.look-look.ensures in
+    let h = accepted-told _ _ (Places _) c.check_call-checked.ensures c.in-Done.is c.of.result c.of.ensures _ c.look.ensures in
     told-read (read-refused _ _ _ _ _ h refl c.in_default-answer.not-Done)
 
 pub write_bits-requires : goal.write_bits-requires
 write_bits-requires c =
-    let h = accepted-told _ _ (Places _) c.check_call-checked.ensures c.in-Done.is c.of.result c.of.ensures _ c.look-look.ensures in
+    let h = accepted-told _ _ (Places _) c.check_call-checked.ensures c.in-Done.is c.of.result c.of.ensures _ c.look.ensures in
     let e = c.in-Done-answer.is in
     (omega (arith, (genuine-common _ (h.look _ e).0).bits_most), read-places _ _ _ _ _ h e)
 
 pub returns : goal.returns
 returns c =
-    let h = accepted-told _ _ (Places _) c.check_call-checked.ensures c.in-Done.is c.of.result c.of.ensures _ c.look-look.ensures in
+    let h = accepted-told _ _ (Places _) c.check_call-checked.ensures c.in-Done.is c.of.result c.of.ensures _ c.look.ensures in
     told-read (read_made _ _ _ _ _ _ _ h c.in-Done-answer.is c.write_bits.ensures.ones c.write_bits.ensures.places)

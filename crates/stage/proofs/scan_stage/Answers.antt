@@ -13,7 +13,7 @@ pub loop-j-init : goal.loop-j-init
 loop-j-init c =
     let e : c.into_iter-j-iterator.result ≡ c.live-j-items.result = c.into_iter-j-iterator.ensures.into_iter_gives in
     let o = c.open-indexes.ensures in
-    rw (e, c.live-j-items.ensures.1, c.unseen.ensures, o.3) (c.live-j-items.ensures.0, o.0, o.1, o.2, scan-begun c.requires.few)
+    rw (e, c.live-j-items.ensures.1, c.clear.ensures, o.3) (c.live-j-items.ensures.0, o.0, o.1, o.2, scan-begun c.requires.few)
 
 -- the block met is the next one of those given that isn't full
 met : (c : In-Some) → FirstLive c.args.blocks c.loop-j.j-iterator.at c.in-Some.j c.in-Some.weight
@@ -23,7 +23,7 @@ met c = rw c.loop-j.invariant.0 at c.in-Some.ensures.steps.0
 before : (c : In-Some) →
     let a = c.args in
     let b = a.blocks in
-    ScanAt a.stage a.k (b.len * b.top) b.count b.len b.cells.now a.region a.batch.now (2 * (a.k - 1)) c.in-Some.j c.loop-j.indexes.at c.loop-j.s
+    ScanAt a.stage a.k (b.len * b.top) b.count b.len b.cells.now a.region a.batch.now (2 * (a.k - 1)) c.in-Some.j c.loop-j.indexes.at c.loop-j.look
 before c = turn-past c.loop-j.invariant.4 (met c).after (omega (arith, (met c).inside)) (met c).passed
 
 pub returns-in_default : goal.returns-in_default
@@ -31,7 +31,7 @@ returns-in_default c =
     let s = (goal.at.returns-in_default c).In-Some in
     let i = c.loop-j.invariant in
     let n = rw (i.1, i.2, i.3) at c.in_default.ensures.steps.0 in
-    too_few (before s) (met s).inside (met s).weighs (met s).live n c.unseen-in_default.ensures
+    too_few (before s) (met s).inside (met s).weighs (met s).live n c.clear-in_default.ensures
 
 -- the index block taken up is the next one that isn't full
 taken : (c : In-Some-next) → NextIndex c.args.region c.args.batch.now (2 * (c.args.k - 1)) c.loop-j.indexes.at (Some (c.in-Some-next.slot, c.in-Some-next.u))
@@ -43,7 +43,7 @@ taken c =
 turn : (c : In-Some) {slot u : ℕ} → NextIndex c.args.region c.args.batch.now (2 * (c.args.k - 1)) c.loop-j.indexes.at (Some (slot, u)) →
     let a = c.args in
     let b = a.blocks in
-    Turn a.stage a.k (b.len * b.top) b.count b.len b.cells.now a.region a.batch.now (2 * (a.k - 1)) c.in-Some.j slot u c.in-Some.weight c.loop-j.s
+    Turn a.stage a.k (b.len * b.top) b.count b.len b.cells.now a.region a.batch.now (2 * (a.k - 1)) c.in-Some.j slot u c.in-Some.weight c.loop-j.look
 turn c n = turn-begun (before c) (met c).inside (met c).weighs (met c).live n
 
 pub overflow_cast-place-in-loop-j : goal.overflow_cast-place-in-loop-j
@@ -63,7 +63,7 @@ loop-j-preserved-then-u-eq0 c =
     let b = c.in-Some.ensures.steps.1 in
     let o = c.in-Some-next.ensures.steps.1 in
     let i = c.loop-j.invariant in
-    (b.0 ∙ i.0, o.0 ∙ i.1, o.1 ∙ i.2, o.2 ∙ i.3, rw (b.1, o.3, c.or-s.ensures) (turn-free (turn g.In-Some (taken g.In-Some-next)) c.if-u-eq0.true))
+    (b.0 ∙ i.0, o.0 ∙ i.1, o.1 ∙ i.2, o.2 ∙ i.3, rw (b.1, o.3, c.or-look.ensures) (turn-free (turn g.In-Some (taken g.In-Some-next)) c.if-u-eq0.true))
 
 pub returns-then-k-u : goal.returns-then-k-u
 returns-then-k-u c =
@@ -71,7 +71,7 @@ returns-then-k-u c =
     let z : u ≡ suc (u - 1) = omega arith in
     let g = goal.at.returns-then-k-u c in
     let t = turn g.In-Some (taken g.In-Some-next) in
-    elim c.then-k-u.branch [ then-k-u-via-then-k-u w ↦ too-great t w.if-k-u.true c.unseen-then-k-u.ensures | then-k-u-via-else-k-u+then-is_some w ↦ twice t (u - 1) z (omega (arith, w.if-k-u.false)) (sym w.is_some.ensures ∙ w.if-is_some.true) c.unseen-then-k-u.ensures ]
+    elim c.then-k-u.branch [ then-k-u-via-then-k-u w ↦ too-great t w.if-k-u.true c.clear-then-k-u.ensures | then-k-u-via-else-k-u+then-is_some w ↦ twice t (u - 1) z (omega (arith, w.if-k-u.false)) (sym w.is_some.ensures ∙ w.if-is_some.true) c.clear-then-k-u.ensures ]
 
 pub loop-j-preserved : goal.loop-j-preserved
 loop-j-preserved c =
@@ -87,15 +87,15 @@ loop-j-preserved c =
 after : (c : In-None) →
     let a = c.args in
     let b = a.blocks in
-    ScanAt a.stage a.k (b.len * b.top) b.count b.len b.cells.now a.region a.batch.now (2 * (a.k - 1)) b.count c.loop-j.indexes.at c.loop-j.s
+    ScanAt a.stage a.k (b.len * b.top) b.count b.len b.cells.now a.region a.batch.now (2 * (a.k - 1)) b.count c.loop-j.indexes.at c.loop-j.look
 after c = turn-past c.loop-j.invariant.4 c.loop-j.invariant.4.in_cells (le_refl c.args.blocks.count) (rw c.loop-j.invariant.0 at c.in-None.ensures.steps.0)
 
 pub returns-in-Some-next-2 : goal.returns-in-Some-next-2
 returns-in-Some-next-2 c =
     let i = c.loop-j.invariant in
-    left-over (after (goal.at.returns-in-Some-next-2 c).In-None) (le_refl c.args.blocks.count) (rw (i.1, i.2, i.3) at c.in-Some-next-2.ensures.steps.0) c.unseen-in-Some-next-2.ensures
+    left-over (after (goal.at.returns-in-Some-next-2 c).In-None) (le_refl c.args.blocks.count) (rw (i.1, i.2, i.3) at c.in-Some-next-2.ensures.steps.0) c.clear-in-Some-next-2.ensures
 
-pub returns-in-None-next : goal.returns-in-None-next
-returns-in-None-next c =
+pub returns-in_default-next : goal.returns-in_default-next
+returns-in_default-next c =
     let i = c.loop-j.invariant in
-    scan-ended (after (goal.at.returns-in-None-next c).In-None) (le_refl c.args.blocks.count) (rw (i.1, i.2, i.3) at c.in-None-next.ensures.steps.0)
+    scan-ended (after (goal.at.returns-in_default-next c).In-None) (le_refl c.args.blocks.count) (rw (i.1, i.2, i.3) at c.in_default-next.ensures.steps.0)

@@ -9,4 +9,4 @@ invariant-loop-j l =
     let o = l.indexes in
     let q = 2 * (l.k - 1) in
     (l.j-iterator.blocks ≡ b) × (o.region ≡ l.fn.region) × (o.batch.now ≡ l.batch) × (o.count ≡ q)
-    × ScanAt l.stage l.k (b.len * b.top) b.count b.len b.cells.now l.fn.region l.batch q l.j-iterator.at o.at l.s
+    × ScanAt l.stage l.k (b.len * b.top) b.count b.len b.cells.now l.fn.region l.batch q l.j-iterator.at o.at l.look

@@ -1,12 +1,12 @@
 -- `index::Region::need_entry` meets its contract: what the cells passed need is known, and the digits of the rest are those of the cells before them. Assumes nothing.
-use Rattle.std.proofs.Common.{◌≡◌, ◌∙◌, ◌+◌, ◌-◌, length, arith}
+use Rattle.std.proofs.Common.{◌≡◌, ◌+◌, ◌-◌, length, arith, tests}
 use Rattle.std.proofs.lemmas.Iterator.Adapters.{YieldsList-from_rev_slice}
 use Rattle.std.proofs.lemmas.Iterator.Consumers.{YieldsList-turn}
 use Rattle.std.proofs.lemmas.List.{length_push}
 use Rattle.laws.specs.Differ.{apart}
 use Rattle.index.specs.Laws.{length-cells}
 use Rattle.index.specs.Meaning.{as_entry, cells_at}
-use Rattle.index.specs.NeedLaws.{NeedTurn, apart-test, need-first, need-turn, read-back}
+use Rattle.index.specs.NeedLaws.{NeedTurn, need-first, need-turn, read-back}
 use Rattle.index.proofs.Region.need_entry.Goals as goal
 use Rattle.index.proofs.Region.need_entry.Goals.{In-Some}
 
@@ -31,6 +31,6 @@ loop-x-preserved c =
     let n = length c.loop-x.yielded in
     let e : length c.args.b.now - (n + 1) ≡ length c.args.b.now - n - 1 = omega arith in
     let d = c.last_digit-digit.ensures in
-    let a : c.from-cells.result ≡ apart c.in-Some.field-0.now (c.args.self.floor + c.last_digit-digit.result.0) = c.from-cells.ensures ∙ apart-test _ _ in
+    let a : c.from-cells.result ≡ apart c.in-Some.field-0.now (c.args.self.floor + c.last_digit-digit.result.0) = grind (arith, tests, c.from-cells.ensures, (turn (goal.at.loop-x-preserved c).In-Some).below) in
     rw (length_push c.loop-x.yielded c.in-Some.field-0, e, d.1, a, c.from-levels.ensures, d.0)
     (turn (goal.at.loop-x-preserved c).In-Some).next

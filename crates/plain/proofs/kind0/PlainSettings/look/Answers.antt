@@ -11,4 +11,4 @@ returns c =
     let r = o.settings in
     plain-look r o.plain _ _
     (subst (λ (x : ℕ). Spare x r.n c.args.sheet.now) (ap (λ (x : ℕ). x * r.k) o.has_blocks) (spare-true _ r.n c.args.sheet.now c.requires.long c.all_zero.ensures c.if-not-all_zero.false))
-    (subst (λ (m : ℕ). Scanned r.k r.top m c.args.sheet.now c.scan_blocks.result) o.has_blocks c.scan_blocks.ensures)
+    (subst (λ (m : ℕ). Scanned r.k r.top m c.args.sheet.now c.scan_blocks.new.look) o.has_blocks c.scan_blocks.ensures)
