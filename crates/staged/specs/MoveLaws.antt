@@ -176,9 +176,9 @@ module _ (r : Settings) (p : StagedFacts r) (f : List ℕ) (v : Levelled r f) wh
         pub move-told : (ys : List ℕ) → M.RouteMoves y route f ys → ys ≡ moved_sheet r f e g
         move-told ys m = m (tabulate r.k g) fits ∙ moved-is
 
-        -- and needs what is told
-        pub need-told : (n : Need) → M.RouteNeeds y route f n → Needs f (moved_sheet r f e g) n
-        need-told n m = subst (λ (ys : List ℕ). Needs f ys n) moved-is (m route.parity route.top (tabulate r.k g) fits)
+        -- and needs what is told of this route's own parity blocks and top level
+        pub need-told : (n : Need) → ((vs : List ℕ) → M.MoveFits y vs route f → Needs f (M.moved_in y route vs f) n) → Needs f (moved_sheet r f e g) n
+        need-told n m = subst (λ (ys : List ℕ). Needs f ys n) moved-is (m (tabulate r.k g) fits)
 
   module _ (i d : ℕ) (bits : List (Option Place)) (k : Stuck r f i d bits) where
     abbrev values : List ℕ

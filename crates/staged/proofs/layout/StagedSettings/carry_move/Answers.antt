@@ -26,5 +26,5 @@ pub returns : goal.returns
 returns c =
     let g = after c.args.bit (value_in c.args.bits.now) in
     let q = move-told _ c.args.self.staged _ c.requires.0 _ c.requires.1 _ c.parity_blocks.ensures _ c.region_of-region.ensures g _ c.route_of-route.ensures _ c.commit_move.ensures in
-    let k = need-told _ c.args.self.staged _ c.requires.0 _ c.requires.1 _ c.parity_blocks.ensures _ c.region_of-region.ensures g _ c.route_of-route.ensures _ c.move_need-need.ensures in
+    let k = need-told _ c.args.self.staged _ c.requires.0 _ c.requires.1 _ c.parity_blocks.ensures _ c.region_of-region.ensures g _ c.route_of-route.ensures _ (c.move_need-need.ensures c.route_of-route.result.parity c.route_of-route.result.top) in
     record { sheet_after = q; levels_raised = k.levels ∙ sym (ap sum q) }
